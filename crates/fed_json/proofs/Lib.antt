@@ -1,0 +1,5 @@
+pub mod KeyOrder
+pub mod Quoting
+pub mod CanonicalTexts
+pub mod Injective
+pub mod Parts

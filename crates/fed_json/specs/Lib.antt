@@ -1,0 +1,10 @@
+pub mod Code
+pub mod Profile
+pub mod Nesting
+pub mod Quoted
+pub mod CanonicalText
+pub mod Reading
+pub mod JsonRef
+pub mod Items
+pub mod Members
+pub mod Editing

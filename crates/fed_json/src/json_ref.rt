@@ -1,0 +1,118 @@
+// A look into a value.
+ghost use Rattle.std.specs.Prelude.{◌≡◌, ◌≤◌, true};
+ghost use Rattle.serde_json.specs.Data.{depth};
+ghost use Rattle.serde_json.specs.Read.{max_depth};
+ghost use Rattle.serde_json.specs.View.{view};
+ghost use Rattle.fed_json.specs.Profile.{all_whole, keys_rise};
+
+use crate::fault::NoMemory;
+use crate::items::Items;
+use crate::members::Members;
+use crate::profile::nesting;
+use crate::value::Json;
+use serde_json::Value;
+use std::alloc::Global;
+
+/// A value inside a `Json`.
+#[derive(Clone, Copy)]
+pub struct JsonRef<'a> {
+    pub(crate) value: &'a Value,
+    ghost whole: { all_whole (view value.now) ≡ true },
+    ghost rising: { keys_rise (view value.now) ≡ true },
+    ghost shallow: { depth (view value.now) ≤ max_depth },
+}
+
+impl<'a> JsonRef<'a> {
+    ghost use Rattle.std.specs.Prelude.{option_map, ◌↔◌, ◌++◌, IsTrue, IsSome, IfOk, OnOk, OnErr};
+    ghost use Rattle.serde_json.specs.Find.{as_str, as_object, get};
+    ghost use Rattle.fed_json.specs.CanonicalText.{canonical_text};
+    ghost use Rattle.fed_json.specs.JsonRef.{seen, as_whole, as_items, as_members};
+    ghost use Rattle.fed_json.specs.Items.{left};
+    ghost use Rattle.fed_json.specs.Members.{members_left};
+
+    /// The member of this name, where this is an object that has one.
+    pub fn member(self, name: &str) -> Option<JsonRef<'a>>
+        ensures { option_map seen result ≡ get name.now (seen self.entry) }
+    {
+        let value = self.value.get(name)?;
+        Some(JsonRef { value })
+    }
+
+    /// The text, where this is one.
+    pub fn text(self) -> Option<&'a str>
+        ensures { option_map (λ s. s.now) result ≡ as_str (seen self.entry) }
+    {
+        self.value.as_str()
+    }
+
+    /// The number, where this is one.
+    pub fn whole(self) -> Option<i64>
+        ensures { result ≡ as_whole (seen self.entry) }
+    {
+        self.value.as_i64()
+    }
+
+    /// The items, where this is an array.
+    pub fn items(self) -> Option<Items<'a>>
+        ensures { option_map left result ≡ as_items (seen self.entry) }
+    {
+        match self.value {
+            Value::Array(items) => Some(Items::new(items)),
+            _ => None,
+        }
+    }
+
+    /// The members, where this is an object.
+    pub fn members(self) -> Option<Members<'a>>
+        ensures { option_map members_left result ≡ as_members (seen self.entry) }
+    {
+        match self.value {
+            Value::Object(members) => Some(Members::new(members)),
+            _ => None,
+        }
+    }
+
+    /// Whether this is an object.
+    pub fn is_object(self) -> bool
+        ensures { IsTrue result ↔ IsSome (as_object (seen self.entry)) }
+    {
+        self.value.is_object()
+    }
+
+    /// Whether this is an array.
+    pub fn is_array(self) -> bool
+        ensures { IsTrue result ↔ IsSome (as_items (seen self.entry)) }
+    {
+        self.items().is_some()
+    }
+
+    /// An equal value that owns its parts.
+    pub fn to_json(self) -> Result<Json, NoMemory>
+        ensures { IfOk result (λ j. j ≡ seen self.entry) }
+    {
+        let value = self.value.clone()?;
+        Ok(Json { value })
+    }
+
+    /// Appends the canonical text of the value. An error leaves `out` as it was.
+    pub fn append_to(self, alloc: Global, out: &mut Vec<u8>) -> Result<(), NoMemory>
+        ensures ok { OnOk result
+            (out.new.items ≡ out.old.items ++ canonical_text (seen self.entry)) }
+        ensures err { OnErr result (out.new.items ≡ out.old.items) }
+    {
+        let text = self.value.to_vec(alloc)?;
+        out.extend_from_slice(&text)?;
+        Ok(())
+    }
+
+    /// How deep the value nests.
+    pub fn depth(self) -> usize
+        ensures value { result ≡ depth (seen self.entry) }
+        ensures bound { result ≤ max_depth }
+    {
+        match nesting(self.value) {
+            Some(depth) => depth,
+            None => unreachable!(),
+        }
+    }
+}

@@ -1,0 +1,32 @@
+//! JSON values as Matrix signs and hashes them: whole numbers only, read by `serde_json` and written as canonical JSON.
+//!
+//! - `value`: `Json`, an owned value, and how it is put together and taken apart
+//! - `json_ref`: `JsonRef`, a look into one
+//! - `items`, `members`: the items of an array and the members of an object, one after another
+//! - `reading`: from bytes to a value
+//! - `writing`: from a value to its one text
+//! - `laws`: what holds of all values and their texts
+//! - `fault`: why bytes are no value
+//! - `profile`: the walk that tells whether a value is of the profile
+#![tactic(auto)]
+
+mod fault;
+mod items;
+mod json_ref;
+mod laws;
+mod members;
+mod profile;
+mod reading;
+#[cfg(test)]
+mod tests;
+mod value;
+mod writing;
+
+pub use fault::{JsonFault, NoMemory};
+pub use items::Items;
+pub use json_ref::JsonRef;
+pub use laws::{key_order, one_text, texts_differ};
+pub use members::Members;
+pub use reading::{MAX_LEVELS, read, read_within};
+pub use value::Json;
+pub use writing::canonical;

@@ -1,0 +1,212 @@
+// A value that owns its parts.
+ghost use Rattle.std.specs.Prelude.{◌≡◌, ℕ, ◌↔◌, IsTrue, ◌<◌, ◌≤◌, IfOk, OnOk, OnErr, IsSome, Some, string_bytes, option_map, map};
+ghost use Rattle.serde_json.specs.Data.{depth, string, object, no_members, put};
+ghost use Rattle.serde_json.specs.Read.{max_depth};
+ghost use Rattle.serde_json.specs.Find.{as_str, as_object, get, get_member};
+ghost use Rattle.fed_json.specs.JsonRef.{seen, as_whole, as_items, as_members};
+ghost use Rattle.fed_json.specs.Items.{left};
+ghost use Rattle.fed_json.specs.Members.{members_left};
+ghost use Rattle.serde_json.specs.View.{items_view, members_view, view as value_view};
+ghost use Rattle.fed_json.specs.Profile.{AreWithin, IsWithin, MembersAreWithin};
+ghost use Rattle.fed_json.specs.Editing.{without, with_member, drop_member};
+
+use crate::fault::NoMemory;
+use crate::items::Items;
+use crate::json_ref::JsonRef;
+use crate::members::Members;
+use serde_json::{Map, Value};
+use std::alloc::Global;
+use std::marker::Model;
+
+/// A JSON value whose numbers are all whole, from -(2^53)+1 to 2^53-1, and that nests at most 127 levels deep.
+///
+/// Contracts see it as the value that it stands for.
+#[derive(Drop)]
+pub struct Json {
+    pub(crate) value: Value,
+}
+
+impl Model for Json {
+    ghost use Rattle.serde_json.specs.Data.{Data};
+    ghost use Rattle.serde_json.specs.Read.{max_depth};
+    ghost use Rattle.serde_json.specs.View.{view as value_view};
+    ghost use Rattle.fed_json.specs.Code.{coded_data};
+    ghost use Rattle.fed_json.specs.Profile.{IsWithin};
+
+    ghost Value = { Data };
+
+    ghost coded = { coded_data };
+
+    ghost view = { λ j. value_view j.value };
+
+    ghost invariant = { λ j. IsWithin max_depth (value_view j.value) };
+}
+
+impl Json {
+    /// An object without members.
+    pub fn empty_object(alloc: Global) -> Json
+        ensures { result ≡ object no_members }
+    {
+        Json {
+            value: Value::Object(Map::new(alloc)),
+        }
+    }
+
+    /// The value, to look into.
+    pub fn root(&self) -> JsonRef<'_>
+        ensures { seen result ≡ self.now }
+    {
+        JsonRef { value: &self.value }
+    }
+
+    /// The member of this name, where this is an object that has one.
+    pub fn member(&self, name: &str) -> Option<JsonRef<'_>>
+        ensures { option_map seen result ≡ get name.now self.now }
+    {
+        self.root().member(name)
+    }
+
+    /// The text, where this is one.
+    pub fn text(&self) -> Option<&str>
+        ensures { option_map (λ s. s.now) result ≡ as_str self.now }
+    {
+        self.root().text()
+    }
+
+    /// The number, where this is one.
+    pub fn whole(&self) -> Option<i64>
+        ensures { result ≡ as_whole self.now }
+    {
+        self.root().whole()
+    }
+
+    /// The items, where this is an array.
+    pub fn items(&self) -> Option<Items<'_>>
+        ensures { option_map left result ≡ as_items self.now }
+    {
+        self.root().items()
+    }
+
+    /// The members, where this is an object.
+    pub fn members(&self) -> Option<Members<'_>>
+        ensures { option_map members_left result ≡ as_members self.now }
+    {
+        self.root().members()
+    }
+
+    /// Whether this is an object.
+    pub fn is_object(&self) -> bool
+        ensures { IsTrue result ↔ IsSome (as_object self.now) }
+    {
+        self.root().is_object()
+    }
+
+    /// Whether this is an array.
+    pub fn is_array(&self) -> bool
+        ensures { IsTrue result ↔ IsSome (as_items self.now) }
+    {
+        self.root().is_array()
+    }
+
+    /// How deep the value nests: 0 for a text, a number, a truth value and null, 1 for an empty array or object, and for any
+    /// other one more than its deepest member.
+    pub fn depth(&self) -> usize
+        ensures value { result ≡ depth self.now }
+        ensures bound { result ≤ max_depth }
+    {
+        self.root().depth()
+    }
+
+    /// Takes the member of this name out, where this is an object that has one.
+    pub fn take(&mut self, name: &str) -> Option<Json>
+        ensures taken { result ≡ get name.now self.old }
+        ensures rest { self.new ≡ without name.now self.old }
+    {
+        let value = remove_member(self.value.as_object_mut()?, name)?;
+        Some(Json { value })
+    }
+
+    /// Puts a member into an object, in the place of the one of that name; another value stays as it is. An error leaves the
+    /// value as it was.
+    pub fn put(&mut self, name: String, member: Json) -> Result<(), NoMemory>
+        requires { depth member < max_depth }
+        ensures ok { OnOk result (self.new ≡ with_member (string_bytes name) member self.old) }
+        ensures err { OnErr result (self.new ≡ self.old) }
+    {
+        let Json { value } = member;
+        if let Some(members) = self.value.as_object_mut() {
+            insert_member(members, name, value)?;
+        }
+        Ok(())
+    }
+
+    /// The items of an array, each moved out of it.
+    pub fn into_items(self, alloc: Global) -> Result<Vec<Json>, NoMemory>
+        requires { IsSome (as_items self) }
+        ensures { IfOk result (λ v. Some v.items ≡ as_items self) }
+    {
+        let Json { value } = self;
+        match value {
+            Value::Array(values) => wrapped(alloc, values),
+            _ => unreachable!(),
+        }
+    }
+
+    /// An equal value.
+    pub fn copy(&self) -> Result<Json, NoMemory>
+        ensures { IfOk result (λ j. j ≡ self.now) }
+    {
+        let value = self.value.clone()?;
+        Ok(Json { value })
+    }
+}
+
+impl From<String> for Json {
+    ghost from_gives = { λ s j. j ≡ string (string_bytes s) };
+
+    fn from(text: String) -> Json {
+        Json {
+            value: Value::String(text),
+        }
+    }
+}
+
+fn remove_member(members: &mut Map<String, Value>, name: &str) -> Option<Value>
+    ensures taken { option_map value_view result
+        ≡ get_member name.now (members_view members.old.entries) }
+    ensures rest { members_view members.new.entries
+        ≡ drop_member name.now (members_view members.old.entries) }
+    ensures within { (n : ℕ) → MembersAreWithin n (members_view members.old.entries)
+        → MembersAreWithin n (members_view members.new.entries) }
+{
+    members.remove(name)
+}
+
+// An error leaves the members as they were.
+fn insert_member(
+    members: &mut Map<String, Value>,
+    name: String,
+    value: Value,
+) -> Result<(), NoMemory>
+    ensures ok { OnOk result (members_view members.new.entries
+        ≡ put (string_bytes name) (value_view value) (members_view members.old.entries)) }
+    ensures err { OnErr result (members.new.entries ≡ members.old.entries) }
+    ensures within { (n : ℕ) → IsWithin n (value_view value)
+        → MembersAreWithin n (members_view members.old.entries)
+        → MembersAreWithin n (members_view members.new.entries) }
+{
+    drop(members.insert(name, value)?);
+    Ok(())
+}
+
+// Each value as a `Json`.
+fn wrapped(alloc: Global, values: Vec<Value>) -> Result<Vec<Json>, NoMemory>
+    requires { AreWithin max_depth (items_view values.items) }
+    ensures { IfOk result (λ v. v.items ≡ map value_view values.items) }
+{
+    let mut items = Vec::with_capacity(alloc, values.len())?;
+    for value in values {
+        items.push(Json { value })?;
+    }
+    Ok(items)
+}
