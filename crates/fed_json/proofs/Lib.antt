@@ -3,3 +3,4 @@ pub mod Quoting
 pub mod CanonicalTexts
 pub mod Injective
 pub mod Parts
+pub mod TextMaps

@@ -8,3 +8,4 @@ pub mod JsonRef
 pub mod Items
 pub mod Members
 pub mod Editing
+pub mod TextMap

@@ -1,0 +1,4 @@
+pub mod Entries
+pub mod Poured
+pub mod Replies
+pub mod Bodies

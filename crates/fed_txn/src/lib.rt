@@ -1,0 +1,26 @@
+//! The bodies of Matrix transactions: what a server sends to another, read, and the reply to it, written.
+//!
+//! - `transaction`: `TransactionIn`, the parts of a transaction that came in, taken from a value
+//! - `reading`: from the bytes of a body to its transaction
+//! - `verdicts`: `Verdicts`, what a server answers about each event of a transaction
+//! - `reply`: from verdicts to the reply body
+//! - `fault`: `TxnFault`, why a body is no transaction, and its error texts
+//! - `laws`: what holds of all replies
+#![tactic(auto)]
+
+mod fault;
+mod laws;
+mod reading;
+mod reply;
+#[cfg(test)]
+mod tests;
+mod transaction;
+mod verdicts;
+
+pub use fault::{BodyField, TxnFault};
+pub use fed_json::NoMemory;
+pub use laws::replies_differ;
+pub use reading::{MAX_BODY, read, read_body};
+pub use reply::write_reply;
+pub use transaction::{MAX_EDUS, MAX_PDUS, TransactionIn};
+pub use verdicts::Verdicts;
