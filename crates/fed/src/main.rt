@@ -1,0 +1,86 @@
+//! The program `fed`: the inbox of a Matrix server, over lines of transactions.
+#![tactic(auto)]
+
+use anyhow::Result;
+use clap::{Arg, ArgMatches, Command};
+use fed_app::{InboxSetup, RunFault, inbox_run};
+use std::alloc::{AllocError, Global};
+use std::process::ExitCode;
+
+const NAME: &str = "b.example";
+
+const SERVERS: &str = "a.example";
+
+const ROOM: &str = "!r:a.example";
+
+fn main(rt: HostRuntime) -> Result<ExitCode> {
+    let alloc = rt.alloc();
+    let words: Vec<String> = std::env::args(&rt)?.collect(alloc)?;
+    let matches = match command(alloc)?.try_get_matches_from(words.as_slice()) {
+        Ok(matches) => matches,
+        Err(error) => {
+            error.print(&rt)?;
+            return Ok(ExitCode::from(if error.use_stderr() { 2 } else { 0 }));
+        }
+    };
+    let done = match setup_of(alloc, &matches) {
+        Ok(setup) => inbox_run(alloc, rt.stdin(), &mut rt.stdout(), setup),
+        Err(AllocError) => Err(RunFault::Memory),
+    };
+    match done {
+        Ok(()) => Ok(ExitCode::SUCCESS),
+        Err(fault) => {
+            eprintln!(rt; "fed: {fault}")?;
+            Ok(ExitCode::from(1))
+        }
+    }
+}
+
+fn command<'a>(alloc: Global) -> Result<Command<'a>, AllocError> {
+    let name = Arg::new(alloc, "name")
+        .long("name")
+        .value_name("N")
+        .default_value(NAME)
+        .help("The name of the server whose inbox it is");
+    let servers = Arg::new(alloc, "servers")
+        .long("servers")
+        .value_name("A,B")
+        .default_value(SERVERS)
+        .help("The servers that it takes transactions from");
+    let room = Arg::new(alloc, "room")
+        .long("room")
+        .value_name("R")
+        .default_value(ROOM)
+        .help("The room that it knows");
+    let inbox = Command::new(alloc, "inbox")
+        .about("Answers lines of origin, transaction number and body")
+        .arg(name)?
+        .arg(servers)?
+        .arg(room)?;
+    Command::new(alloc, "fed")
+        .about("The federation inbox of a Matrix server; with no words, `inbox` with its defaults")
+        .subcommand(inbox)
+}
+
+// The setup that the words ask for.
+fn setup_of(alloc: Global, matches: &ArgMatches<'_>) -> Result<InboxSetup, AllocError> {
+    let (name, servers, room) = match matches.subcommand() {
+        Some((_, inbox)) => (
+            inbox.get_str("name").unwrap_or(NAME),
+            inbox.get_str("servers").unwrap_or(SERVERS),
+            inbox.get_str("room").unwrap_or(ROOM),
+        ),
+        None => (NAME, SERVERS, ROOM),
+    };
+    let mut listed = Vec::new(alloc);
+    for server in servers.split(',') {
+        listed.push(String::from_str(alloc, server)?)?;
+    }
+    let mut rooms = Vec::new(alloc);
+    rooms.push(String::from_str(alloc, room)?)?;
+    Ok(InboxSetup {
+        own: String::from_str(alloc, name)?,
+        servers: listed,
+        rooms,
+    })
+}

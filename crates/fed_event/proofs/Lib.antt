@@ -1,0 +1,6 @@
+pub mod Selecting
+pub mod Redacting
+pub mod Plain
+pub mod Parts
+pub mod Building
+pub mod FirstFault

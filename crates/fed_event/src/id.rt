@@ -1,0 +1,69 @@
+// The ids of events.
+ghost use Rattle.std.specs.Prelude.{◌≡◌, Some, IfOk, string_bytes};
+ghost use Rattle.fed_event.specs.EventId.{event_id_of};
+
+use crate::signed::signed_text;
+use base64::engine::general_purpose::URL_SAFE_NO_PAD;
+use fed_json::{Json, NoMemory};
+use sha2::{Digest, Sha256};
+use std::alloc::Global;
+use std::fmt;
+use std::marker::Model;
+
+/// The id of an event (room version 4, "Event IDs"), as a text. Contracts see it as its bytes.
+#[derive(Drop)]
+pub struct EventId {
+    text: String,
+}
+
+impl Model for EventId {
+    ghost use Rattle.std.specs.Prelude.{ℕ, List, string_bytes};
+    ghost use Rattle.std.specs.Coded.{coded_ℕ, coded_list};
+
+    ghost Value = { List ℕ };
+
+    ghost coded = { coded_list coded_ℕ };
+
+    ghost view = { λ id. string_bytes id.text };
+}
+
+impl EventId {
+    /// The text of the id.
+    pub fn as_str(&self) -> &str
+        ensures { result.now ≡ self.now }
+    {
+        self.text.as_str()
+    }
+
+    /// The text of the id, to keep.
+    pub fn into_string(self) -> String
+        ensures { string_bytes result ≡ self }
+    {
+        let EventId { text } = self;
+        text
+    }
+}
+
+impl fmt::Display for EventId {
+    ghost output = { λ id. Some id };
+
+    fn fmt<W: fmt::Write>(&self, f: &mut fmt::Formatter<W>) -> fmt::Result {
+        f.write_str(self.as_str())
+    }
+}
+
+impl fmt::Debug for EventId {
+    fn fmt<W: fmt::Write>(&self, f: &mut fmt::Formatter<W>) -> fmt::Result {
+        fmt::Debug::fmt(self.as_str(), f)
+    }
+}
+
+/// The id of an event: `$` and the unpadded URL-safe base64 of the SHA-256 of its signed text. A value that is no event has one too.
+pub fn event_id(alloc: Global, event: &Json) -> Result<EventId, NoMemory>
+    ensures { IfOk result (λ id. id ≡ event_id_of event.now) }
+{
+    let hash = Sha256::digest(signed_text(alloc, event)?.as_slice());
+    let mut text = String::from_str(alloc, "$")?;
+    URL_SAFE_NO_PAD.encode_string(&hash, &mut text)?;
+    Ok(EventId { text })
+}

@@ -1,0 +1,30 @@
+//! Events of a room, called PDUs (persistent data units): what redaction leaves of one, what of it is signed and hashed, its id,
+//! and the tests that it has to pass.
+//!
+//! - `redaction`: what redaction leaves of an event
+//! - `signed`: the bytes of an event that are signed and hashed
+//! - `id`: `EventId`, the reference hash of an event as a text
+//! - `pdu`: `Pdu`, an event that has passed the tests
+//! - `field`, `fault`: the fields of an event, and why a value is no event
+//! - `laws`: what holds of all redactions and ids
+//! - `kept`: the keys that redaction keeps
+#![tactic(auto)]
+
+mod fault;
+mod field;
+mod id;
+mod kept;
+mod laws;
+mod pdu;
+mod redaction;
+mod signed;
+#[cfg(test)]
+mod tests;
+
+pub use fault::PduFault;
+pub use field::Field;
+pub use id::{EventId, event_id};
+pub use laws::{ids_of_redactions, redacted_once, unsigned_changes, what_redaction_keeps};
+pub use pdu::{MAX_DEPTH, MAX_SIZE, Pdu, first_fault};
+pub use redaction::redact;
+pub use signed::signed_text;

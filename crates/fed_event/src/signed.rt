@@ -1,0 +1,112 @@
+// The bytes of an event that are signed and hashed.
+ghost use Rattle.std.specs.Prelude.{◌≡◌, ◌∷◌, [], ◌++◌, not, IfOk, OnOk, map};
+ghost use Rattle.json.specs.Print.{quoted};
+ghost use Rattle.serde_json.specs.Data.{object};
+ghost use Rattle.fed_json.specs.CanonicalText.{canonical_text, comma};
+ghost use Rattle.fed_json.specs.JsonRef.{seen};
+ghost use Rattle.fed_json.specs.Members.{members_left};
+ghost use Rattle.fed_event.specs.Names.{is_one_of, select, members_of};
+ghost use Rattle.fed_event.specs.Plain.{IsPlain, ArePlain};
+ghost use Rattle.fed_event.specs.Redaction.{redacted_members, kept_content};
+ghost use Rattle.fed_event.specs.EventId.{signed_part, unsigned_keys};
+
+use crate::kept::{content_keys, is_among, is_signed};
+use crate::redaction::event_type;
+use fed_json::{Json, JsonRef, Members, NoMemory};
+use std::alloc::Global;
+
+/// The bytes of an event that its servers sign and that are hashed for its id (Server-Server API, "Signing Events"): the canonical
+/// text of its redaction without `signatures` and `unsigned`. A value that is no object is written as it is.
+pub fn signed_text(alloc: Global, event: &Json) -> Result<Vec<u8>, NoMemory>
+    ensures { IfOk result (λ text. text.items ≡ canonical_text (signed_part event.now)) }
+{
+    let event = event.root();
+    let mut text = Vec::new(alloc);
+    match event.members() {
+        Some(members) => {
+            append_event(alloc, &mut text, members, content_keys(event_type(event)))?;
+        }
+        None => event.append_to(alloc, &mut text)?,
+    }
+    Ok(text)
+}
+
+// Appends the object of the members that are signed of an event whose content keeps these keys.
+fn append_event(
+    alloc: Global,
+    text: &mut Vec<u8>,
+    members: Members<'_>,
+    keys: &[&str],
+) -> Result<(), NoMemory>
+    requires { ArePlain (map (λ key. key.now) keys.now) }
+    ensures { let kept = redacted_members (map (λ key. key.now) keys.now) (members_of (members_left members.entry)) in
+        OnOk result (text.new.items
+        ≡ text.old.items ++ canonical_text (object (select (λ k. not (is_one_of unsigned_keys k)) kept))) }
+{
+    text.push(b'{')?;
+    let mut later = false;
+    for (name, value) in members {
+        if is_signed(name) {
+            append_name(text, later, name)?;
+            if name == "content" {
+                append_content(alloc, text, value, keys)?;
+            } else {
+                value.append_to(alloc, text)?;
+            }
+            later = true;
+        }
+    }
+    text.push(b'}')?;
+    Ok(())
+}
+
+// Appends the object of the members of the content of these names.
+fn append_content(
+    alloc: Global,
+    text: &mut Vec<u8>,
+    content: JsonRef<'_>,
+    keys: &[&str],
+) -> Result<(), NoMemory>
+    requires { ArePlain (map (λ key. key.now) keys.now) }
+    ensures { let kept = kept_content (map (λ key. key.now) keys.now) (seen content.entry) in
+        OnOk result (text.new.items ≡ text.old.items ++ canonical_text kept) }
+{
+    match content.members() {
+        Some(members) => append_kept(alloc, text, members, keys),
+        None => text.extend_from_slice(b"{}"),
+    }
+}
+
+// Appends the object of the members of these names.
+fn append_kept(
+    alloc: Global,
+    text: &mut Vec<u8>,
+    members: Members<'_>,
+    keys: &[&str],
+) -> Result<(), NoMemory>
+    requires { ArePlain (map (λ key. key.now) keys.now) }
+    ensures { let kept = select (is_one_of (map (λ key. key.now) keys.now)) (members_of (members_left members.entry)) in
+        OnOk result (text.new.items ≡ text.old.items ++ canonical_text (object kept)) }
+{
+    text.push(b'{')?;
+    let mut later = false;
+    for (name, value) in members {
+        if is_among(keys, name) {
+            append_name(text, later, name)?;
+            value.append_to(alloc, text)?;
+            later = true;
+        }
+    }
+    text.push(b'}')?;
+    Ok(())
+}
+
+// Appends the name of a member, behind a comma where one stands before it.
+fn append_name(text: &mut Vec<u8>, later: bool, name: &str) -> Result<(), NoMemory>
+    requires { IsPlain name.now }
+    ensures { OnOk result (text.new.items ≡ text.old.items ++ (comma later ++ (quoted name.now ++ 58 ∷ []))) }
+{
+    text.extend_from_slice(if later { b",\"" } else { b"\"" })?;
+    text.extend_from_slice(name.as_bytes())?;
+    text.extend_from_slice(b"\":")
+}

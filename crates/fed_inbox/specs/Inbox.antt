@@ -1,0 +1,67 @@
+-- The state of an inbox: the server's name, the rooms that it knows, and a log for each server that it takes from.
+use Rattle.std.specs.Prelude.{ℕ, List, [], ◌∷◌, ◌++◌, ◌&&◌, refl, find, Option, Some, None, Bool, not, if◌then◌else◌}
+use Rattle.std.specs.Str.{bytes_eq}
+use Rattle.std.specs.List.{list_any}
+use Rattle.std.specs.FinMap as finite
+use Rattle.std.specs.Coded.{Coded, code_by, coded×, coded_ℕ, coded_list}
+use Rattle.fed_inbox.specs.Log.{LogState, log_code}
+
+pub record InboxState : Type 0 where
+  pub own : List ℕ
+  pub rooms : List (List ℕ)
+  pub logs : List LogState
+
+abbrev pub inbox_code : Coded InboxState
+inbox_code =
+    code_by (List ℕ × (List (List ℕ) × List LogState))
+    (coded× (coded_list coded_ℕ) (coded× (coded_list (coded_list coded_ℕ)) (coded_list log_code)))
+    (λ s. (s.own, (s.rooms, s.logs)))
+    (λ p. record { own = p.0; rooms = p.1.0; logs = p.1.1 })
+    (λ _. refl)
+
+-- the log of an origin that nothing was taken from
+abbrev pub empty_log : List ℕ → LogState
+empty_log origin = record { origin = origin; replies = finite.empty; pdus = []; edus = [] }
+
+abbrev pub is_of : List ℕ → LogState → Bool
+is_of origin log = bytes_eq log.origin origin
+
+-- the log of this origin
+abbrev pub log_at : List ℕ → List LogState → Option LogState
+log_at origin logs = find (is_of origin) logs
+
+-- the logs, with this one in the place of that of the origin
+abbrev pub with_log : List ℕ → List LogState → LogState → List LogState
+with_log origin [] log = []
+with_log origin (l ∷ logs) log = if is_of origin l then log ∷ logs else l ∷ with_log origin logs log
+
+-- another server than `own`, that has no log yet
+abbrev pub is_new : List LogState → List ℕ → List ℕ → Bool
+is_new logs own server = not (bytes_eq server own) && not (list_any (is_of server) logs)
+
+-- with an empty log for one more server, where it is new
+abbrev pub with_server : List ℕ → List LogState → List ℕ → List LogState
+with_server own logs server = if is_new logs own server then logs ++ empty_log server ∷ [] else logs
+
+abbrev pub with_servers : List ℕ → List LogState → List (List ℕ) → List LogState
+with_servers own logs [] = logs
+with_servers own logs (server ∷ servers) = with_servers own (with_server own logs server) servers
+
+-- an inbox that nothing came to
+abbrev pub new_inbox : List ℕ → List (List ℕ) → List (List ℕ) → InboxState
+new_inbox own servers rooms = record { own = own; rooms = rooms; logs = with_servers own [] servers }
+
+-- the texts taken from an origin, in order: none from a server that is not listed
+abbrev pub pdus_by : Option LogState → List (List ℕ)
+pdus_by None = []
+pdus_by (Some log) = log.pdus
+
+abbrev pub edus_by : Option LogState → List (List ℕ)
+edus_by None = []
+edus_by (Some log) = log.edus
+
+abbrev pub taken_of : InboxState → List ℕ → List (List ℕ)
+taken_of inbox origin = pdus_by (log_at origin inbox.logs)
+
+abbrev pub taken_edus_of : InboxState → List ℕ → List (List ℕ)
+taken_edus_of inbox origin = edus_by (log_at origin inbox.logs)

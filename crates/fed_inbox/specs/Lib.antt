@@ -1,0 +1,9 @@
+pub mod Refusal
+pub mod Reply
+pub mod ReplyParts
+pub mod Log
+pub mod LogParts
+pub mod Taking
+pub mod OutcomeParts
+pub mod Inbox
+pub mod Answer

@@ -1,0 +1,21 @@
+-- What was taken from one origin, in order, and the reply kept for each of its transactions, by number.
+use Rattle.std.specs.Prelude.{ℕ, List, refl}
+use Rattle.std.specs.Coded.{Coded, code_by, coded×, coded_ℕ, coded_list}
+use Rattle.fed_json.specs.TextMap.{TextMap, text_map_code}
+
+pub record LogState : Type 0 where
+  pub origin : List ℕ
+  pub replies : TextMap (List ℕ)
+  pub pdus : List (List ℕ)
+  pub edus : List (List ℕ)
+
+abbrev pub texts_code : Coded (List (List ℕ))
+texts_code = coded_list (coded_list coded_ℕ)
+
+abbrev pub log_code : Coded LogState
+log_code =
+    code_by (List ℕ × (TextMap (List ℕ) × (List (List ℕ) × List (List ℕ))))
+    (coded× (coded_list coded_ℕ) (coded× (text_map_code (coded_list coded_ℕ)) (coded× texts_code texts_code)))
+    (λ l. (l.origin, (l.replies, (l.pdus, l.edus))))
+    (λ p. record { origin = p.0; replies = p.1.0; pdus = p.1.1.0; edus = p.1.1.1 })
+    (λ _. refl)

@@ -1,0 +1,152 @@
+// The inbox of a server.
+ghost use Rattle.std.specs.Prelude.{◌≡◌, ◌<◌, [], map, length, position, string_bytes, IfOk, IfSome};
+ghost use Rattle.std.specs.List.{list_any};
+ghost use Rattle.fed_inbox.specs.LogParts.{texts_of};
+ghost use Rattle.fed_inbox.specs.Inbox.{new_inbox, with_servers, is_of, is_new, taken_of, taken_edus_of};
+ghost use Rattle.fed_inbox.specs.Answer.{IsAnswered, IsTried, request_of};
+
+use crate::log::Log;
+use crate::refusal::Refusal;
+use crate::reply::Reply;
+use fed_json::NoMemory;
+use std::alloc::Global;
+use std::marker::Model;
+
+/// The transactions that a server was sent: what it took of them, and the replies that it gave.
+#[derive(Drop)]
+pub struct Inbox {
+    own: String,
+    rooms: Vec<String>,
+    logs: Vec<Log>,
+}
+
+impl Model for Inbox {
+    ghost use Rattle.std.specs.Prelude.{map, string_bytes};
+    ghost use Rattle.fed_inbox.specs.Inbox.{InboxState, inbox_code};
+
+    ghost Value = { InboxState };
+
+    ghost coded = { inbox_code };
+
+    ghost view = { λ i. record { own = string_bytes i.own; rooms = map string_bytes i.rooms.items; logs = i.logs.items } };
+}
+
+impl Inbox {
+    /// An empty inbox of the server `own`, which takes from the other servers of the list, and knows these rooms.
+    pub fn new(
+        alloc: Global,
+        own: String,
+        servers: Vec<String>,
+        rooms: Vec<String>,
+    ) -> Result<Inbox, NoMemory>
+        ensures { IfOk result (λ inbox. inbox ≡ new_inbox (string_bytes own)
+            (map string_bytes servers.items) (map string_bytes rooms.items)) }
+    {
+        let logs = logs_of(alloc, &own, servers)?;
+        Ok(Inbox { own, rooms, logs })
+    }
+
+    /// The name of the server.
+    pub fn own(&self) -> &str
+        ensures { result.now ≡ self.now.own }
+    {
+        self.own.as_str()
+    }
+
+    /// The rooms that the server knows.
+    pub fn rooms(&self) -> &[String]
+        ensures { map string_bytes result.now ≡ self.now.rooms }
+    {
+        self.rooms.as_slice()
+    }
+
+    /// Answers the transaction `txn` of `origin`, and takes it where the answer is its first 200. The first of these decides:
+    ///
+    /// - 403 where the origin is not another listed server
+    /// - 413 where the body has more than 16,777,216 bytes
+    /// - 400 where the body is no JSON text, or has no canonical text
+    /// - 401 where the body's `origin` is a text other than the origin
+    /// - 200 with the kept reply where the transaction was taken before, whatever the body
+    /// - 400 where a field of the body is missing or of another kind, or the body has too many PDUs or EDUs
+    /// - else 200; the reply has a verdict for every PDU that is an object, and it is kept
+    ///
+    /// Where memory runs out the answer is 500, and nothing is taken or kept.
+    pub fn answer_body(&mut self, alloc: Global, origin: &str, txn: &str, body: &[u8]) -> Reply
+        ensures { IsAnswered self.old (request_of origin.now txn.now body.now) result self.new }
+    {
+        match self.try_answer(alloc, origin, txn, body) {
+            Ok(body) => Reply::accepted(body),
+            Err(refusal) => Reply::refused(refusal),
+        }
+    }
+
+    /// The canonical texts of the PDUs taken from an origin, in order.
+    pub fn taken(&self, origin: &str) -> &[Vec<u8>]
+        ensures { texts_of result.now ≡ taken_of self.now origin.now }
+    {
+        match self.place(origin) {
+            Some(place) => self.logs[place].pdus(),
+            None => &[],
+        }
+    }
+
+    /// The canonical texts of the EDUs taken from an origin, in order.
+    pub fn taken_edus(&self, origin: &str) -> &[Vec<u8>]
+        ensures { texts_of result.now ≡ taken_edus_of self.now origin.now }
+    {
+        match self.place(origin) {
+            Some(place) => self.logs[place].edus(),
+            None => &[],
+        }
+    }
+
+    fn try_answer(
+        &mut self,
+        alloc: Global,
+        origin: &str,
+        txn: &str,
+        body: &[u8],
+    ) -> Result<Vec<u8>, Refusal>
+        ensures { IsTried self.old (request_of origin.now txn.now body.now) result self.new }
+    {
+        match self.place(origin) {
+            Some(place) => self.logs[place].answer(alloc, txn, body),
+            None => Err(Refusal::ServerNotListed),
+        }
+    }
+
+    // Where the log of an origin lies.
+    fn place(&self, origin: &str) -> Option<usize>
+        ensures place { result ≡ position (is_of origin.now) self.now.logs }
+        ensures within { IfSome result (λ place. place < length self.now.logs) }
+    {
+        self.logs.iter().position(|log| log.origin() == origin)
+    }
+}
+
+// A log for each of the servers but `own`.
+fn logs_of(alloc: Global, own: &str, servers: Vec<String>) -> Result<Vec<Log>, NoMemory>
+    ensures { IfOk result (λ logs. logs.items
+        ≡ with_servers own.now [] (map string_bytes servers.items)) }
+{
+    let mut logs: Vec<Log> = Vec::new(alloc);
+    for server in servers {
+        if is_new(&logs, own, &server) {
+            logs.push(Log::new(alloc, server))?;
+        }
+    }
+    Ok(logs)
+}
+
+// Whether a server is another one than `own`, and has no log yet.
+fn is_new(logs: &[Log], own: &str, server: &str) -> bool
+    ensures { result ≡ is_new logs.now own.now server.now }
+{
+    server != own && !has_log(logs, server)
+}
+
+fn has_log(logs: &[Log], server: &str) -> bool
+    ensures { result ≡ list_any (is_of server.now) logs.now }
+{
+    logs.iter().any(|log| log.origin() == server)
+}

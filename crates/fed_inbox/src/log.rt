@@ -1,0 +1,144 @@
+// What was taken from one origin.
+ghost use Rattle.std.specs.Prelude.{◌≡◌, string_bytes, option_map, OnOk, OnErr, IfOk};
+ghost use Rattle.std.specs.FinMap as finite;
+ghost use Rattle.fed_inbox.specs.LogParts.{texts_of};
+ghost use Rattle.fed_inbox.specs.Inbox.{empty_log};
+ghost use Rattle.fed_inbox.specs.Answer.{with_taking, names_other, answer_with, IsStep, IsNewStep};
+ghost use Rattle.fed_txn.specs.Reading.{body_of};
+ghost use Rattle.fed_txn.specs.Transaction.{transaction_of};
+ghost use Rattle.fed_inbox.specs.OutcomeParts.{taking};
+
+use crate::outcome::Outcome;
+use crate::refusal::Refusal;
+use fed_json::{Json, NoMemory};
+use fed_txn::{TransactionIn, read_body};
+use std::alloc::Global;
+use std::collections::BTreeMap;
+use std::marker::Model;
+
+/// What was taken from one origin, in order, and the reply kept for each of its transactions.
+#[derive(Drop)]
+pub(crate) struct Log {
+    origin: String,
+    replies: BTreeMap<String, Vec<u8>>,
+    pdus: Vec<Vec<u8>>,
+    edus: Vec<Vec<u8>>,
+}
+
+impl Model for Log {
+    ghost use Rattle.std.specs.BTreeMap.{IsOrdered};
+    ghost use Rattle.std.specs.String.{string_cmp};
+    ghost use Rattle.fed_inbox.specs.Log.{LogState, log_code};
+
+    ghost Value = { LogState };
+
+    ghost coded = { log_code };
+
+    ghost use Rattle.fed_inbox.specs.LogParts.{log_of};
+
+    ghost view = { log_of };
+
+    ghost invariant = { λ l. IsOrdered string_cmp l.replies };
+}
+
+impl Log {
+    pub(crate) fn new(alloc: Global, origin: String) -> Log
+        ensures { result ≡ empty_log (string_bytes origin) }
+    {
+        Log {
+            origin,
+            replies: BTreeMap::new(alloc),
+            pdus: Vec::new(alloc),
+            edus: Vec::new(alloc),
+        }
+    }
+
+    pub(crate) fn origin(&self) -> &str
+        ensures { result.now ≡ self.now.origin }
+    {
+        self.origin.as_str()
+    }
+
+    pub(crate) fn pdus(&self) -> &[Vec<u8>]
+        ensures { texts_of result.now ≡ self.now.pdus }
+    {
+        self.pdus.as_slice()
+    }
+
+    pub(crate) fn edus(&self) -> &[Vec<u8>]
+        ensures { texts_of result.now ≡ self.now.edus }
+    {
+        self.edus.as_slice()
+    }
+
+    /// The reply that is kept for a transaction.
+    pub(crate) fn reply(&self, txn: &str) -> Option<&Vec<u8>>
+        ensures { option_map (λ v. v.now.items) result ≡ finite.get self.now.replies txn.now }
+    {
+        self.replies.get(txn)
+    }
+
+    /// Answers a transaction of this origin with the body of a 200 or a refusal. An error that memory ran out leaves the log as
+    /// it was.
+    pub(crate) fn answer(
+        &mut self,
+        alloc: Global,
+        txn: &str,
+        body: &[u8],
+    ) -> Result<Vec<u8>, Refusal>
+        ensures { IsStep self.old txn.now (body_of body.now) (answer_with result) self.new }
+    {
+        let body = read_body(alloc, body)?;
+        if names_other_origin(&body, self.origin()) {
+            return Err(Refusal::OriginDiffers);
+        }
+        if let Some(kept) = self.reply(txn) {
+            return Ok(Vec::from_slice(alloc, kept)?);
+        }
+        self.answer_new(alloc, txn, body)
+    }
+
+    // Answers a transaction for which no reply is kept.
+    fn answer_new(&mut self, alloc: Global, txn: &str, body: Json) -> Result<Vec<u8>, Refusal>
+        ensures { IsNewStep self.old txn.now (transaction_of body) (answer_with result) self.new }
+    {
+        let transaction = TransactionIn::of_json(alloc, body)?;
+        let outcome = Outcome::of(alloc, &transaction)?;
+        Ok(self.take(alloc, txn, outcome)?)
+    }
+
+    /// Takes what a transaction came to and keeps its reply; answers a copy of it. An error leaves the log as it was.
+    pub(crate) fn take(
+        &mut self,
+        alloc: Global,
+        txn: &str,
+        outcome: Outcome,
+    ) -> Result<Vec<u8>, NoMemory>
+        ensures ok { OnOk result (self.new ≡ with_taking self.old txn.now (taking outcome)) }
+        ensures answer { IfOk result (λ reply. reply.items ≡ (taking outcome).reply) }
+        ensures err { OnErr result (self.new ≡ self.old) }
+    {
+        let Outcome {
+            mut pdus,
+            mut edus,
+            reply,
+        } = outcome;
+        let answer = Vec::from_slice(alloc, &reply)?;
+        let number = String::from_str(alloc, txn)?;
+        self.pdus.reserve(pdus.len())?;
+        self.edus.reserve(edus.len())?;
+        drop(self.replies.insert(number, reply)?);
+        self.pdus.append(&mut pdus).unwrap();
+        self.edus.append(&mut edus).unwrap();
+        Ok(answer)
+    }
+}
+
+// Whether the body has a text `origin` that is not this one.
+fn names_other_origin(body: &Json, origin: &str) -> bool
+    ensures { result ≡ names_other body.now origin.now }
+{
+    body.member("origin")
+        .and_then(|part| part.text())
+        .is_some_and(|named| named != origin)
+}
