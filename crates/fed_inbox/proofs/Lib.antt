@@ -1,3 +1,4 @@
 pub mod Logs
 pub mod Places
 pub mod Steps
+pub mod Runs

@@ -7,3 +7,4 @@ pub mod Taking
 pub mod OutcomeParts
 pub mod Inbox
 pub mod Answer
+pub mod Runs

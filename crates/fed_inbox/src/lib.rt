@@ -5,10 +5,12 @@
 //! - `log`: what was taken from one origin, and the replies kept for it
 //! - `outcome`: what taking a transaction comes to: the texts of its elements and its reply
 //! - `reply`: `Reply`, a status and a body
+//! - `laws`: what holds of all lists of requests
 //! - `refusal`: `Refusal`, the table of the error replies
 #![tactic(auto)]
 
 mod inbox;
+mod laws;
 mod log;
 mod outcome;
 mod refusal;
@@ -17,5 +19,6 @@ mod reply;
 mod tests;
 
 pub use inbox::Inbox;
+pub use laws::{kept_replies_stay, origins_are_apart, repeats_take_nothing, taken_grows};
 pub use refusal::Refusal;
 pub use reply::Reply;

@@ -1,0 +1,9 @@
+use Rattle.fed_inbox.proofs.Runs.{all_grow, step_grows}
+use Rattle.fed_inbox.specs.Log.{LogState}
+use Rattle.fed_inbox.proofs.laws.taken_grows.Goals as goal
+
+pub returns-clause-pdus : goal.returns-clause-pdus
+returns-clause-pdus c = all_grow (λ (l : LogState). l.pdus) (λ l r. (step_grows l r).pdus)
+
+pub returns-clause-edus : goal.returns-clause-edus
+returns-clause-edus c = all_grow (λ (l : LogState). l.edus) (λ l r. (step_grows l r).edus)
