@@ -1,4 +1,5 @@
 // How a run ends early.
+ghost use Rattle.std.specs.Prelude.{◌≡◌};
 
 use fed_json::NoMemory;
 use std::io;
@@ -20,12 +21,21 @@ pub enum RunFault {
 }
 
 impl From<NoMemory> for RunFault {
+    ghost use Rattle.fed_app.specs.declared.fault.RunFault.TheVariants.{Memory};
+
+    ghost from_gives = { λ _ fault. fault ≡ Memory };
+
     fn from(_error: NoMemory) -> RunFault {
         RunFault::Memory
     }
 }
 
 impl From<io::Error> for RunFault {
+    ghost use Rattle.std.specs.IoError.{error_kind};
+    ghost use Rattle.fed_app.specs.Fault.{IsFaultOf};
+
+    ghost from_gives = { λ error fault. IsFaultOf (error_kind error) fault };
+
     fn from(error: io::Error) -> RunFault {
         match error.kind() {
             ErrorKind::OutOfMemory => RunFault::Memory,

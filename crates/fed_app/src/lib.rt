@@ -1,6 +1,7 @@
 //! What the program `fed` does, over any reader and any writer.
 //!
 //! - `lines`: `inbox_run`, lines of transactions in, lines of replies out
+//! - `setup`: `InboxSetup`, whose inbox it is
 //! - `words`: the parts of a line
 //! - `limited`: a reader that may be asked so many times
 //! - `fault`: how a run ends early
@@ -9,9 +10,11 @@
 mod fault;
 mod limited;
 mod lines;
+mod setup;
 #[cfg(test)]
 mod tests;
 mod words;
 
 pub use fault::RunFault;
-pub use lines::{InboxSetup, MAX_READS, inbox_run};
+pub use lines::{MAX_READS, inbox_run};
+pub use setup::InboxSetup;

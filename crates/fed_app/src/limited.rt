@@ -1,4 +1,7 @@
 // A reader that may be asked so many times.
+ghost use Rattle.std.specs.Prelude.{◌≡◌, ◌+◌, ◌<◌, IsErr};
+ghost use Rattle.std.specs.Io.{ReadsAtMost};
+ghost use Rattle.std.specs.Io.KnownBytes.{ReadConsumes};
 
 use std::io;
 use std::io::{ErrorKind, Read};
@@ -11,13 +14,23 @@ pub(crate) struct Limited<R> {
 }
 
 impl<R: Read> Limited<R> {
-    pub(crate) fn new(inner: R, calls: u64) -> Limited<R> {
+    pub(crate) fn new(inner: R, calls: u64) -> Limited<R>
+        ensures inner { result.inner ≡ inner }
+        ensures left { result.left ≡ calls }
+    {
         Limited { inner, left: calls }
     }
 }
 
 impl<R: Read> Read for Limited<R> {
-    fn read(&mut self, buffer: &mut [u8]) -> io::Result<usize> {
+    ghost remaining = { λ reader. R.remaining reader.inner };
+
+    fn read(&mut self, buffer: &mut [u8]) -> io::Result<usize>
+        ensures bound { ReadsAtMost result buffer.new }
+        ensures bytes { ReadConsumes (R.remaining self.old.inner) (R.remaining self.new.inner) result buffer.new }
+        ensures spent { self.old.left ≡ 0 → IsErr result × (self.new ≡ self.old) }
+        ensures counted { 0 < self.old.left → self.new.left + 1 ≡ self.old.left }
+    {
         if self.left == 0 {
             return Err(io::Error::from(ErrorKind::Other));
         }

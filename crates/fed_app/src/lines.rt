@@ -1,12 +1,21 @@
 // Lines of transactions in, lines of replies out.
+ghost use Rattle.std.specs.Prelude.{◌≡◌, ◌++◌, OnOk, IfSome};
+ghost use Rattle.std.specs.Io.BufRead.{strip_last};
+ghost use Rattle.fed_app.specs.Lines.{words_in};
+ghost use Rattle.fed_app.specs.Output.{line_of};
+ghost use Rattle.fed_app.specs.Ends.{IsEnd};
+ghost use Rattle.fed_app.specs.Setup.{first_inbox};
+ghost use Rattle.fed_app.specs.Steps.{TakesLine, WritesLine};
 
 use crate::fault::RunFault;
 use crate::limited::Limited;
+use crate::setup::InboxSetup;
 use crate::words::words_of;
 use fed_inbox::{Inbox, Reply};
 use fed_json::NoMemory;
 use std::alloc::Global;
-use std::io::{BufRead, BufReader, Read, Write};
+use std::io;
+use std::io::{BufRead, BufReader, ErrorKind, Read, Write};
 
 /// How often the input is read at most.
 pub const MAX_READS: u64 = 40_000_000;
@@ -14,69 +23,123 @@ pub const MAX_READS: u64 = 40_000_000;
 // How many bytes are read at once.
 const BUFFER: usize = 65_536;
 
-/// Whose inbox it is.
-#[derive(Drop)]
-pub struct InboxSetup {
-    /// The name of the server.
-    pub own: String,
-    /// The servers that it takes transactions from.
-    pub servers: Vec<String>,
-    /// The rooms that it knows.
-    pub rooms: Vec<String>,
-}
-
 /// Reads lines `<origin> <txnId> <body>` and writes, for each of them, the line `<status> <reply body>` of an inbox that begins
-/// empty. Each line is written and flushed before the next one is read. The end of the input ends a line too.
+/// empty (Server-Server API, "Transactions"). Each line is written and flushed before the next one is read. The first two spaces
+/// of a line end its first two parts, and the end of the input ends a line too.
 ///
 /// # Errors
 ///
-/// `WrongWords` at the first line that has not three parts, or whose first two are not UTF-8; `Io` where a read or a write
-/// fails, or after `MAX_READS` reads; `Memory` where memory ran out. The lines before are answered.
+/// - `WrongWords` at the first line with an empty or missing part, or whose first two parts are not both UTF-8. The lines before it
+///   are answered.
+/// - `Io` where a read or a write fails, a writer takes nothing, or the input was read `MAX_READS` times; `Memory` where there is no
+///   memory to begin, for a line or for its reply. What was written is a front of the replies.
 pub fn inbox_run<R: Read + Drop, W: Write>(
     alloc: Global,
     reader: R,
     writer: &mut W,
     setup: InboxSetup,
-) -> Result<(), RunFault> {
+) -> Result<(), RunFault>
+    ensures { IfSome (R.remaining reader) (λ input.
+        IsEnd (first_inbox setup) (words_in input) (W.contents writer.old) (W.contents writer.new) result) }
+{
     let InboxSetup {
         own,
         servers,
         rooms,
     } = setup;
-    let mut inbox = Inbox::new(alloc, own, servers, rooms)?;
+    let inbox = Inbox::new(alloc, own, servers, rooms)?;
     let mut input = BufReader::with_capacity(alloc, BUFFER, Limited::new(reader, MAX_READS))?;
-    let mut line = Vec::new(alloc);
-    let mut out = Vec::new(alloc);
-    for number in 0..u64::MAX {
-        line.clear();
-        if input.read_until(b'\n', &mut line)? == 0 {
-            break;
-        }
-        let Some(words) = words_of(without_end(&line)) else {
-            return Err(RunFault::WrongWords { line: number + 1 });
-        };
-        let reply = inbox.answer_body(alloc, words.origin, words.txn, words.body);
-        out.clear();
-        append_line(&mut out, &reply)?;
-        writer.write_all(&out)?;
-        writer.flush()?;
-    }
-    Ok(())
+    answer_lines(alloc, inbox, &mut input, writer)
 }
 
-fn without_end(line: &[u8]) -> &[u8] {
-    match line {
-        [front @ .., b'\n'] => front,
-        _ => line,
+// Answers the lines of an input, one after another.
+fn answer_lines<B: BufRead, W: Write>(
+    alloc: Global,
+    mut inbox: Inbox,
+    input: &mut B,
+    writer: &mut W,
+) -> Result<(), RunFault>
+    ensures { IfSome (B.remaining input.old) (λ bytes.
+        IsEnd inbox (words_in bytes) (W.contents writer.old) (W.contents writer.new) result) }
+{
+    let mut line = Vec::new(alloc);
+    let mut out = Vec::new(alloc);
+    for number in 1..u64::MAX {
+        if !read_line(input, &mut line)? {
+            return Ok(());
+        }
+        let Some(words) = words_of(&line) else {
+            return Err(RunFault::WrongWords { line: number });
+        };
+        let reply = inbox.answer_body(alloc, words.origin, words.txn, words.body);
+        write_reply(writer, &mut out, &reply)?;
     }
+    // More lines than the input can be read for.
+    Err(RunFault::Io)
+}
+
+// Reads a line without its newline, in the place of the one before. False where nothing is left.
+fn read_line<B: BufRead>(input: &mut B, line: &mut Vec<u8>) -> io::Result<bool>
+    ensures { IfSome (B.remaining input.old) (λ bytes.
+        TakesLine bytes (B.remaining input.new) line.new.items result) }
+{
+    line.clear();
+    if input.read_until(b'\n', line)? == 0 {
+        return Ok(false);
+    }
+    pop_newline(line);
+    Ok(true)
+}
+
+fn pop_newline(line: &mut Vec<u8>)
+    ensures { line.new.items ≡ strip_last 10 line.old.items }
+{
+    let len = line.len();
+    if len > 0 && line[len - 1] == b'\n' {
+        line.truncate(len - 1);
+    }
+}
+
+// Writes and flushes the line of a reply. `out` is room for it.
+fn write_reply<W: Write>(writer: &mut W, out: &mut Vec<u8>, reply: &Reply) -> io::Result<()>
+    ensures { WritesLine (W.contents writer.old) (W.contents writer.new) (line_of reply.now) result }
+{
+    out.clear();
+    append_line(out, reply)?;
+    write_whole(writer, out)?;
+    writer.flush()
 }
 
 // Appends the line of a reply.
-fn append_line(out: &mut Vec<u8>, reply: &Reply) -> Result<(), NoMemory> {
+fn append_line(out: &mut Vec<u8>, reply: &Reply) -> Result<(), NoMemory>
+    ensures { OnOk result (out.new.items ≡ out.old.items ++ line_of reply.now) }
+{
     let mut digits = itoa::Buffer::new();
     out.extend_from_slice(digits.format(reply.status()).as_bytes())?;
     out.push(b' ')?;
     out.extend_from_slice(reply.body())?;
     out.push(b'\n')?;
     Ok(())
+}
+
+// Writes all the bytes. Where a write fails, the writes before it wrote a front of them, which `write_all` doesn't say.
+fn write_whole<W: Write>(writer: &mut W, bytes: &[u8]) -> io::Result<()>
+    ensures { WritesLine (W.contents writer.old) (W.contents writer.new) bytes.now result }
+{
+    let mut rest = bytes;
+    for _ in 0..u64::MAX {
+        if rest.is_empty() {
+            return Ok(());
+        }
+        match writer.write(rest) {
+            Ok(0) => return Err(io::Error::from(ErrorKind::WriteZero)),
+            Ok(written) => rest = &rest[written..],
+            Err(error) => {
+                if error.kind() != ErrorKind::Interrupted {
+                    return Err(error);
+                }
+            }
+        }
+    }
+    Err(io::Error::from(ErrorKind::TimedOut))
 }

@@ -1,13 +1,40 @@
-// Runs over input in memory: each line that is wanted is worked out from the tables of the standard.
-use crate::{InboxSetup, RunFault, inbox_run};
-use std::alloc::Global;
+use crate::{InboxSetup, MAX_READS, RunFault, inbox_run};
+use fed_json::NoMemory;
+use std::alloc::{AllocError, Global};
+use std::cell::Cell;
 use std::io;
 use std::io::{ErrorKind, Read, Write};
 use std::process::Abort;
 use std::test::Fail;
 
-/// The inbox of b.example for a.example.
-fn setup(alloc: Global) -> Result<InboxSetup, Fail> {
+const INPUT: &str = "\
+a.example 7-1 {\"origin\":\"a.example\",\"origin_server_ts\":1,\"pdus\":[]}
+a.example 7-2 {\"origin\":\"a.example\",\"origin_server_ts\":1,\"pdus\":[{},{\"unsigned\":{\"age\":1}},5]}
+a.example 7-2 {\"origin\":\"a.example\",\"origin_server_ts\":9,\"pdus\":[]}
+a.example 7-3 {\"origin\":\"c.example\",\"origin_server_ts\":1,\"pdus\":[]}
+x.example 1 {}
+a.example 7-4 {\"origin\":
+a.example 7-4 {\"origin\":\"a.example\",\"origin_server_ts\":1.5,\"pdus\":[]}
+a.example 7-4 {\"origin\":\"a.example\",\"pdus\":[]}
+a.example 7-4 {\"origin\":\"a.example\",\"origin_server_ts\":1,\"pdus\":[]}
+";
+
+const OUTPUT: &str = "\
+200 {\"pdus\":{}}
+200 {\"pdus\":{\"$RBNvo1WzZ4oRRq0W9-hknpT7T8If536DEMBg9hyq_4o\":{\"error\":\"missing field: auth_events\"}}}
+200 {\"pdus\":{\"$RBNvo1WzZ4oRRq0W9-hknpT7T8If536DEMBg9hyq_4o\":{\"error\":\"missing field: auth_events\"}}}
+401 {\"errcode\":\"M_UNAUTHORIZED\",\"error\":\"origin differs\"}
+403 {\"errcode\":\"M_FORBIDDEN\",\"error\":\"server not listed\"}
+400 {\"errcode\":\"M_NOT_JSON\",\"error\":\"not json\"}
+400 {\"errcode\":\"M_BAD_JSON\",\"error\":\"not canonical\"}
+400 {\"errcode\":\"M_BAD_JSON\",\"error\":\"bad field: origin_server_ts\"}
+200 {\"pdus\":{}}
+";
+
+const TAKEN: &str = "200 {\"pdus\":{}}\n";
+
+// The inbox of `b.example`, which takes from `a.example`.
+fn setup(alloc: Global) -> Result<InboxSetup, AllocError> {
     let mut servers = Vec::new(alloc);
     servers.push(String::from_str(alloc, "a.example")?)?;
     let mut rooms = Vec::new(alloc);
@@ -19,217 +46,408 @@ fn setup(alloc: Global) -> Result<InboxSetup, Fail> {
     })
 }
 
-/// Runs over an input, and compares what is written and how the run ends.
-fn check(
+// Asserts how a run over these bytes ends, and what it writes after what is there before.
+fn expect(
     rt: &impl Abort,
     alloc: Global,
     input: &[u8],
-    want: &[u8],
     end: Result<(), RunFault>,
+    output: &str,
 ) -> Result<(), Fail> {
-    let mut output = Vec::new(alloc);
-    let found = inbox_run(alloc, input, &mut output, setup(alloc)?);
-    assert_eq!(rt; output.as_slice(), want, "at {input:?}");
-    assert_eq!(rt; found, end, "at {input:?}");
+    let mut written = Vec::from_slice(alloc, b"# ")?;
+    let ended = inbox_run(alloc, input, &mut written, setup(alloc)?);
+    assert_eq!(rt; ended, end, "{input:?}");
+    let (before, after) = written.split_at(2);
+    assert_eq!(rt; before, b"# ".as_slice());
+    assert_eq!(rt; after, output.as_bytes(), "{input:?}");
     Ok(())
 }
 
-const EMPTY: &str = "{\"origin\":\"a.example\",\"origin_server_ts\":1,\"pdus\":[]}";
-
-const LINES: &str = "a.example 7-1 {\"origin\":\"a.example\",\"origin_server_ts\":1,\"pdus\":[]}
-a.example 7-2 {\"origin\":\"a.example\",\"origin_server_ts\":1,\"pdus\":[{},{\"unsigned\":{\"age\":1}},5]}
-a.example 7-2 {\"origin\":\"a.example\",\"origin_server_ts\":9,\"pdus\":[]}
-a.example 7-3 {\"origin\":\"c.example\",\"origin_server_ts\":1,\"pdus\":[]}
-x.example 1 {}
-a.example 7-4 {\"origin\":
-a.example 7-4 {\"origin\":\"a.example\",\"origin_server_ts\":1.5,\"pdus\":[]}
-a.example 7-4 {\"origin\":\"a.example\",\"pdus\":[]}
-a.example 7-4 {\"origin\":\"a.example\",\"origin_server_ts\":1,\"pdus\":[]}
-";
-
-const REPLIES: &str = "200 {\"pdus\":{}}
-200 {\"pdus\":{\"$RBNvo1WzZ4oRRq0W9-hknpT7T8If536DEMBg9hyq_4o\":{\"error\":\"missing field: auth_events\"}}}
-200 {\"pdus\":{\"$RBNvo1WzZ4oRRq0W9-hknpT7T8If536DEMBg9hyq_4o\":{\"error\":\"missing field: auth_events\"}}}
-401 {\"errcode\":\"M_UNAUTHORIZED\",\"error\":\"origin differs\"}
-403 {\"errcode\":\"M_FORBIDDEN\",\"error\":\"server not listed\"}
-400 {\"errcode\":\"M_NOT_JSON\",\"error\":\"not json\"}
-400 {\"errcode\":\"M_BAD_JSON\",\"error\":\"not canonical\"}
-400 {\"errcode\":\"M_BAD_JSON\",\"error\":\"bad field: origin_server_ts\"}
-200 {\"pdus\":{}}
-";
-
 #[test]
 fn answers_each_line(rt: HostRuntime) -> Result<(), Fail> {
-    let lines = LINES.as_bytes();
-    check(&rt, rt.alloc(), lines, REPLIES.as_bytes(), Ok(()))?;
-    // The end of the input ends the last line too.
-    assert!(rt; lines.len() > 1);
-    check(
-        &rt,
-        rt.alloc(),
-        &lines[..lines.len() - 1],
-        REPLIES.as_bytes(),
-        Ok(()),
-    )?;
-    check(&rt, rt.alloc(), b"", b"", Ok(()))
+    expect(&rt, rt.alloc(), INPUT.as_bytes(), Ok(()), OUTPUT)?;
+    expect(&rt, rt.alloc(), b"", Ok(()), "")
 }
 
 #[test]
-fn refuses_wrong_words(rt: HostRuntime) -> Result<(), Fail> {
-    let wrong: [&[u8]; 10] = [
-        b"a.example 7-1",
-        b"a.example 7-1\n",
-        b"\n",
-        b"a.example",
-        b"a.example 7-1 ",
-        b"a.example  {}",
-        b" 7-1 {}",
-        b"  ",
-        b"\xff 7-1 {}",
-        b"a.example \xff {}",
-    ];
-    for line in wrong {
-        check(
-            &rt,
-            rt.alloc(),
-            line,
-            b"",
-            Err(RunFault::WrongWords { line: 1 }),
-        )?;
-    }
-    // The lines before are answered, and the wrong one is counted.
-    let input = format!(in rt.alloc();
-        "a.example 1 {EMPTY}\na.example 2 {EMPTY}\n\na.example 3 {EMPTY}\n"
-    )?;
-    check(
+fn the_end_of_the_input_ends_a_line(rt: HostRuntime) -> Result<(), Fail> {
+    let line = b"a.example 7-1 {\"origin\":\"a.example\",\"origin_server_ts\":1,\"pdus\":[]}";
+    expect(&rt, rt.alloc(), line, Ok(()), TAKEN)?;
+    expect(
         &rt,
         rt.alloc(),
-        input.as_bytes(),
-        b"200 {\"pdus\":{}}\n200 {\"pdus\":{}}\n",
-        Err(RunFault::WrongWords { line: 3 }),
-    )?;
-    // A body is any bytes.
-    check(
-        &rt,
-        rt.alloc(),
-        b"a.example 1 \xff\n",
-        b"400 {\"errcode\":\"M_NOT_JSON\",\"error\":\"not json\"}\n",
+        b"x.example 1 {}\nx.example 1 {}",
         Ok(()),
+        "403 {\"errcode\":\"M_FORBIDDEN\",\"error\":\"server not listed\"}\n\
+         403 {\"errcode\":\"M_FORBIDDEN\",\"error\":\"server not listed\"}\n",
     )
 }
 
 #[test]
-fn tells_how_a_run_ends(rt: HostRuntime) -> Result<(), Fail> {
-    let alloc = rt.alloc();
-    assert_eq!(rt;
-        format!(in alloc; "{}", RunFault::WrongWords { line: 12 })?.as_str(),
-        "line 12: wrong words"
-    );
-    assert_eq!(rt;
-        format!(in alloc; "{}", RunFault::Memory)?.as_str(),
-        "out of memory"
-    );
-    assert_eq!(rt;
-        format!(in alloc; "{}", RunFault::Io)?.as_str(),
-        "input or output failed"
-    );
-    Ok(())
-}
-
-/// A reader that gives one byte at a call, and fails at one call.
-#[derive(Drop)]
-struct Slow<'a> {
-    left: &'a [u8],
-    calls_left: usize,
-}
-
-impl<'a> Read for Slow<'a> {
-    fn read(&mut self, buffer: &mut [u8]) -> io::Result<usize> {
-        if self.calls_left == 0 {
-            return Err(io::Error::from(ErrorKind::Other));
-        }
-        self.calls_left -= 1;
-        match (self.left, buffer) {
-            ([byte, rest @ ..], [place, ..]) => {
-                *place = *byte;
-                self.left = rest;
-                Ok(1)
-            }
-            _ => Ok(0),
-        }
+fn lines_with_wrong_words(rt: HostRuntime) -> Result<(), Fail> {
+    let first = Err(RunFault::WrongWords { line: 1 });
+    for line in [
+        b"a.example 7-1".as_slice(),
+        b"a.example 7-1\n",
+        b"\n",
+        b" ",
+        b"  ",
+        b"a.example\n",
+        b" 7-1 {}\n",
+        b"a.example  {}\n",
+        b"a.example 7-1 \n",
+        b"a.example 7-1 ",
+        b"\xff 7-1 {}\n",
+        b"a.example \xc3( {}\n",
+        b"a.example\t7-1\t{}\n",
+    ] {
+        expect(&rt, rt.alloc(), line, first, "")?;
     }
+    Ok(())
 }
 
 #[test]
-fn reads_byte_by_byte_and_fails_at_each(rt: HostRuntime) -> Result<(), Fail> {
-    let alloc = rt.alloc();
-    let input = format!(in alloc; "a.example 1 {EMPTY}\na.example 2 {EMPTY}\n")?;
-    let whole = b"200 {\"pdus\":{}}\n200 {\"pdus\":{}}\n";
-    for calls in 0..input.len() + 2 {
-        let mut output = Vec::new(alloc);
-        let reader = Slow {
-            left: input.as_bytes(),
-            calls_left: calls,
-        };
-        let end = inbox_run(alloc, reader, &mut output, setup(alloc)?);
-        let done = calls > input.len();
-        assert_eq!(rt;
-            end,
-            if done { Ok(()) } else { Err(RunFault::Io) },
-            "at {calls}"
-        );
-        assert!(rt; whole.starts_with(&output), "at {calls}");
-        assert!(rt; !done || output.len() == whole.len(), "at {calls}");
+fn a_wrong_line_ends_the_run(rt: HostRuntime) -> Result<(), Fail> {
+    let refused = "403 {\"errcode\":\"M_FORBIDDEN\",\"error\":\"server not listed\"}\n\
+                   400 {\"errcode\":\"M_NOT_JSON\",\"error\":\"not json\"}\n";
+    expect(
+        &rt,
+        rt.alloc(),
+        b"x.example 1 {}\na.example 1 {\n\nx.example 1 {}\n",
+        Err(RunFault::WrongWords { line: 3 }),
+        refused,
+    )?;
+    // Two more spaces and a carriage return belong to the body.
+    expect(
+        &rt,
+        rt.alloc(),
+        b"x.example 1   {}\na.example 1 { \r\n",
+        Ok(()),
+        refused,
+    )
+}
+
+#[test]
+fn a_body_that_is_not_utf_8(rt: HostRuntime) -> Result<(), Fail> {
+    expect(
+        &rt,
+        rt.alloc(),
+        b"a.example 7-1 \"\xff\"\n",
+        Ok(()),
+        "400 {\"errcode\":\"M_NOT_JSON\",\"error\":\"not json\"}\n",
+    )
+}
+
+// Appends a line whose body has so many empty objects as PDUs and as EDUs.
+fn push_transaction(
+    line: &mut Vec<u8>,
+    txn: &str,
+    pdus: usize,
+    edus: usize,
+) -> Result<(), AllocError> {
+    line.extend_from_slice(b"a.example ")?;
+    line.extend_from_slice(txn.as_bytes())?;
+    line.extend_from_slice(b" {\"origin\":\"a.example\",\"origin_server_ts\":1,\"pdus\":[")?;
+    push_objects(line, pdus)?;
+    line.extend_from_slice(b"],\"edus\":[")?;
+    push_objects(line, edus)?;
+    line.extend_from_slice(b"]}\n")?;
+    Ok(())
+}
+
+fn push_objects(line: &mut Vec<u8>, count: usize) -> Result<(), AllocError> {
+    for number in 0..count {
+        line.extend_from_slice(if number == 0 { b"{}" } else { b",{}" })?;
     }
     Ok(())
 }
 
-/// A writer that takes one byte at a call, and fails at one call.
-#[derive(Drop)]
-struct Narrow {
-    taken: Vec<u8>,
-    calls_left: usize,
+#[test]
+fn as_many_elements_as_there_may_be(rt: HostRuntime) -> Result<(), Fail> {
+    let mut input = Vec::new(rt.alloc());
+    push_transaction(&mut input, "1", 51, 0)?;
+    push_transaction(&mut input, "1", 50, 0)?;
+    push_transaction(&mut input, "2", 0, 101)?;
+    push_transaction(&mut input, "2", 0, 100)?;
+    push_transaction(&mut input, "2", 51, 101)?;
+    expect(
+        &rt,
+        rt.alloc(),
+        &input,
+        Ok(()),
+        "400 {\"errcode\":\"M_BAD_JSON\",\"error\":\"too many pdus\"}\n\
+         200 {\"pdus\":{\"$RBNvo1WzZ4oRRq0W9-hknpT7T8If536DEMBg9hyq_4o\":{\"error\":\"missing field: auth_events\"}}}\n\
+         400 {\"errcode\":\"M_BAD_JSON\",\"error\":\"too many edus\"}\n\
+         200 {\"pdus\":{}}\n\
+         200 {\"pdus\":{}}\n",
+    )
 }
 
-impl Write for Narrow {
-    fn write(&mut self, bytes: &[u8]) -> io::Result<usize> {
-        if self.calls_left == 0 {
-            return Err(io::Error::from(ErrorKind::Other));
+// Gives its bytes in pieces of so many at most, fails at the call after so many, and asks to be called again every other time
+// where it is slow.
+#[derive(Drop)]
+struct Pieces<'a> {
+    bytes: &'a [u8],
+    piece: usize,
+    calls: u64,
+    slow: bool,
+    waits: bool,
+}
+
+impl Read for Pieces<'_> {
+    fn read(&mut self, buffer: &mut [u8]) -> io::Result<usize> {
+        if self.calls == 0 {
+            return Err(io::Error::from(ErrorKind::BrokenPipe));
         }
-        self.calls_left -= 1;
-        match bytes {
-            [byte, ..] => {
-                self.taken.push(*byte)?;
-                Ok(1)
-            }
-            [] => Ok(0),
+        self.calls -= 1;
+        self.waits = self.slow && !self.waits;
+        if self.waits {
+            return Err(io::Error::from(ErrorKind::Interrupted));
         }
+        let count = self.piece.min(self.bytes.len()).min(buffer.len());
+        let (given, rest) = self.bytes.split_at(count);
+        buffer[..count].copy_from_slice(given);
+        self.bytes = rest;
+        Ok(count)
+    }
+}
+
+fn in_pieces(bytes: &[u8], piece: usize, calls: u64) -> Pieces<'_> {
+    Pieces {
+        bytes,
+        piece,
+        calls,
+        slow: false,
+        waits: false,
+    }
+}
+
+// Takes so many bytes at a time at most, and fails at the call after so many; a flush is a call too.
+#[derive(Drop)]
+struct Takes {
+    bytes: Vec<u8>,
+    piece: usize,
+    calls: u64,
+    slow: bool,
+    waits: bool,
+}
+
+impl Takes {
+    fn new(alloc: Global, piece: usize, calls: u64) -> Takes {
+        Takes {
+            bytes: Vec::new(alloc),
+            piece,
+            calls,
+            slow: false,
+            waits: false,
+        }
+    }
+}
+
+impl Write for Takes {
+    fn write(&mut self, buffer: &[u8]) -> io::Result<usize> {
+        if self.calls == 0 {
+            return Err(io::Error::from(ErrorKind::BrokenPipe));
+        }
+        self.calls -= 1;
+        self.waits = self.slow && !self.waits;
+        if self.waits {
+            return Err(io::Error::from(ErrorKind::Interrupted));
+        }
+        let count = self.piece.min(buffer.len());
+        self.bytes.extend_from_slice(&buffer[..count])?;
+        Ok(count)
     }
 
     fn flush(&mut self) -> io::Result<()> {
+        if self.calls == 0 {
+            return Err(io::Error::from(ErrorKind::BrokenPipe));
+        }
+        self.calls -= 1;
         Ok(())
     }
 }
 
 #[test]
-fn writes_byte_by_byte_and_fails_at_each(rt: HostRuntime) -> Result<(), Fail> {
+fn bytes_in_small_pieces(rt: HostRuntime) -> Result<(), Fail> {
     let alloc = rt.alloc();
-    let input = format!(in alloc; "a.example 1 {EMPTY}\na.example 2 {EMPTY}\n")?;
-    let whole = b"200 {\"pdus\":{}}\n200 {\"pdus\":{}}\n";
-    for calls in 0..whole.len() + 1 {
-        let mut writer = Narrow {
-            taken: Vec::new(alloc),
-            calls_left: calls,
-        };
-        let end = inbox_run(alloc, input.as_bytes(), &mut writer, setup(alloc)?);
-        let done = calls == whole.len();
-        assert_eq!(rt;
-            end,
-            if done { Ok(()) } else { Err(RunFault::Io) },
-            "at {calls}"
-        );
-        assert!(rt; whole.starts_with(&writer.taken), "at {calls}");
-        assert_eq!(rt; writer.taken.len(), calls);
+    for piece in [1, 2, 7, 70_000] {
+        for slow in [false, true] {
+            let mut reader = in_pieces(INPUT.as_bytes(), piece, u64::MAX);
+            reader.slow = slow;
+            let mut writer = Takes::new(alloc, piece, u64::MAX);
+            writer.slow = slow;
+            let ended = inbox_run(alloc, reader, &mut writer, setup(alloc)?);
+            assert_eq!(rt; ended, Ok(()));
+            assert_eq!(rt; writer.bytes.as_slice(), OUTPUT.as_bytes());
+        }
     }
+    Ok(())
+}
+
+#[test]
+fn a_read_that_fails(rt: HostRuntime) -> Result<(), Fail> {
+    let alloc = rt.alloc();
+    // 524 bytes in pieces of 10 are 53 reads, and one more sees the end.
+    assert_eq!(rt; INPUT.len(), 524);
+    for calls in 0..55 {
+        let mut written = Vec::new(alloc);
+        let reader = in_pieces(INPUT.as_bytes(), 10, calls);
+        let ended = inbox_run(alloc, reader, &mut written, setup(alloc)?);
+        if calls < 54 {
+            assert_eq!(rt; ended, Err(RunFault::Io));
+            assert!(rt; OUTPUT.as_bytes().starts_with(&written));
+            assert!(rt; written.is_empty() || written.last() == Some(&b'\n'));
+        } else {
+            assert_eq!(rt; ended, Ok(()));
+            assert_eq!(rt; written.as_slice(), OUTPUT.as_bytes());
+        }
+    }
+    Ok(())
+}
+
+#[test]
+fn a_write_that_fails(rt: HostRuntime) -> Result<(), Fail> {
+    let alloc = rt.alloc();
+    // Each of the nine lines is written in pieces of 40, and flushed.
+    let needed = 1 + 3 + 3 + 2 + 2 + 2 + 2 + 2 + 1 + 9;
+    for calls in 0..needed + 1 {
+        let mut writer = Takes::new(alloc, 40, calls);
+        let ended = inbox_run(alloc, INPUT.as_bytes(), &mut writer, setup(alloc)?);
+        if calls < needed {
+            assert_eq!(rt; ended, Err(RunFault::Io));
+            assert!(rt; OUTPUT.as_bytes().starts_with(&writer.bytes));
+        } else {
+            assert_eq!(rt; ended, Ok(()));
+            assert_eq!(rt; writer.bytes.as_slice(), OUTPUT.as_bytes());
+        }
+    }
+    Ok(())
+}
+
+#[test]
+fn a_writer_that_takes_nothing(rt: HostRuntime) -> Result<(), Fail> {
+    let alloc = rt.alloc();
+    let mut writer = Takes::new(alloc, 0, 1_000);
+    let ended = inbox_run(alloc, INPUT.as_bytes(), &mut writer, setup(alloc)?);
+    assert_eq!(rt; ended, Err(RunFault::Io));
+    assert!(rt; writer.bytes.is_empty());
+    Ok(())
+}
+
+// Gives one byte at each call and counts the calls.
+#[derive(Drop)]
+struct Endless<'a> {
+    calls: &'a Cell<u64>,
+}
+
+impl Read for Endless<'_> {
+    fn read(&mut self, buffer: &mut [u8]) -> io::Result<usize> {
+        self.calls.set(self.calls.get().saturating_add(1));
+        if buffer.is_empty() {
+            return Ok(0);
+        }
+        buffer[0] = b'a';
+        Ok(1)
+    }
+}
+
+#[test]
+fn the_input_is_read_so_often_at_most(rt: HostRuntime) -> Result<(), Fail> {
+    let alloc = rt.alloc();
+    let calls = Cell::new(0);
+    let mut written = Vec::new(alloc);
+    let reader = Endless { calls: &calls };
+    let ended = inbox_run(alloc, reader, &mut written, setup(alloc)?);
+    assert_eq!(rt; ended, Err(RunFault::Io));
+    assert!(rt; written.is_empty());
+    assert_eq!(rt; calls.get(), 40_000_000);
+    assert_eq!(rt; MAX_READS, 40_000_000);
+    Ok(())
+}
+
+// Gives one line at each call, once what is written before is flushed.
+#[derive(Drop)]
+struct Asks<'a> {
+    lines: &'a [&'a str],
+    held: &'a Cell<u64>,
+}
+
+impl Read for Asks<'_> {
+    fn read(&mut self, buffer: &mut [u8]) -> io::Result<usize> {
+        let [line, rest @ ..] = self.lines else {
+            return Ok(0);
+        };
+        if self.held.get() > 0 || line.len() > buffer.len() {
+            return Err(io::Error::from(ErrorKind::Other));
+        }
+        buffer[..line.len()].copy_from_slice(line.as_bytes());
+        self.lines = rest;
+        Ok(line.len())
+    }
+}
+
+// Counts the bytes that are not flushed.
+#[derive(Drop)]
+struct Holds<'a> {
+    bytes: Vec<u8>,
+    held: &'a Cell<u64>,
+}
+
+impl Write for Holds<'_> {
+    fn write(&mut self, buffer: &[u8]) -> io::Result<usize> {
+        self.bytes.extend_from_slice(buffer)?;
+        self.held.set(self.held.get().saturating_add(1));
+        Ok(buffer.len())
+    }
+
+    fn flush(&mut self) -> io::Result<()> {
+        self.held.set(0);
+        Ok(())
+    }
+}
+
+#[test]
+fn each_line_is_flushed_before_the_next_is_read(rt: HostRuntime) -> Result<(), Fail> {
+    let alloc = rt.alloc();
+    let held = Cell::new(0);
+    let mut writer = Holds {
+        bytes: Vec::new(alloc),
+        held: &held,
+    };
+    let lines = ["x.example 1 {}\n", "a.example 1 {\n", "x.example 2 {}"];
+    let reader = Asks {
+        lines: &lines,
+        held: &held,
+    };
+    let ended = inbox_run(alloc, reader, &mut writer, setup(alloc)?);
+    assert_eq!(rt; ended, Ok(()));
+    assert_eq!(rt; held.get(), 0);
+    assert_eq!(rt;
+        writer.bytes.as_slice(),
+        "403 {\"errcode\":\"M_FORBIDDEN\",\"error\":\"server not listed\"}\n\
+         400 {\"errcode\":\"M_NOT_JSON\",\"error\":\"not json\"}\n\
+         403 {\"errcode\":\"M_FORBIDDEN\",\"error\":\"server not listed\"}\n"
+            .as_bytes()
+    );
+    Ok(())
+}
+
+#[test]
+fn texts_and_sources_of_faults(rt: HostRuntime) -> Result<(), Fail> {
+    let alloc = rt.alloc();
+    for (fault, text) in [
+        (RunFault::Memory, "out of memory"),
+        (RunFault::WrongWords { line: 7 }, "line 7: wrong words"),
+        (RunFault::Io, "input or output failed"),
+    ] {
+        assert_eq!(rt; format!(in alloc; "{fault}")?.as_str(), text);
+    }
+    let no_memory: NoMemory = AllocError;
+    assert_eq!(rt; RunFault::from(no_memory), RunFault::Memory);
+    let full = io::Error::from(ErrorKind::OutOfMemory);
+    assert_eq!(rt; RunFault::from(full), RunFault::Memory);
+    let broken = io::Error::from(ErrorKind::BrokenPipe);
+    assert_eq!(rt; RunFault::from(broken), RunFault::Io);
     Ok(())
 }

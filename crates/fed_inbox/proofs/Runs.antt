@@ -17,7 +17,7 @@ use Rattle.fed_inbox.specs.Log.{LogState}
 use Rattle.fed_inbox.specs.Inbox.{InboxState, is_of, log_at, with_log}
 use Rattle.fed_inbox.specs.Taking.{taking_of}
 use Rattle.fed_inbox.specs.Answer.{Request, answered, step_new, step_kept, step_body, step_of, names_other, logs_by, after, marked_after}
-use Rattle.fed_inbox.specs.Runs.{Marked, after_all, reply_by, kept_reply}
+use Rattle.fed_inbox.specs.Runs.{after_all, reply_by, kept_reply}
 
 -- what a step leaves of the log
 pub record Grows (old new : LogState) : Type 0 where
@@ -137,17 +137,25 @@ module _ (part : LogState → List (List ℕ)) (grows : (l : LogState) (r : Requ
             ∙ ap (λ found. by_part found ++ (grows l r).0) (sym there) ∙ ap (λ p. by_part (log_at p s.logs) ++ (grows l r).0) (sym is),
       )
 
-  marked_grows : (s : InboxState) (m : Marked) (o : List ℕ) → (more : List (List ℕ)) × (by_part (log_at o (marked_after s m.request m.found).logs) ≡ by_part (log_at o s.logs) ++ more)
-  marked_grows s m o =
-      elim m.found as (λ b. (more : List (List ℕ)) × (by_part (log_at o (if b then after s m.request else s).logs) ≡ by_part (log_at o s.logs) ++ more))
-      [ true ↦ after_grows s m.request o | false ↦ ([], sym (append-nil (by_part (log_at o s.logs)))) ]
+  marked_grows : (s : InboxState) (r : Request) (found : Bool) (o : List ℕ) → (more : List (List ℕ)) × (by_part (log_at o (marked_after s r found).logs) ≡ by_part (log_at o s.logs) ++ more)
+  marked_grows s r found o =
+      elim found as (λ b. (more : List (List ℕ)) × (by_part (log_at o (if b then after s r else s).logs) ≡ by_part (log_at o s.logs) ++ more))
+      [ true ↦ after_grows s r o | false ↦ ([], sym (append-nil (by_part (log_at o s.logs)))) ]
 
-  pub all_grow : (s : InboxState) (ms : List Marked) (o : List ℕ) → (more : List (List ℕ)) × (by_part (log_at o (after_all s ms).logs) ≡ by_part (log_at o s.logs) ++ more)
-  all_grow s [] o = ([], sym (append-nil (by_part (log_at o s.logs))))
-  all_grow s (m ∷ ms) o =
-      let first = marked_grows s m o in
-      let rest = all_grow (marked_after s m.request m.found) ms o in
-      (first.0 ++ rest.0, rest.1 ∙ ap (λ t. t ++ rest.0) first.1 ∙ append_assoc (by_part (log_at o s.logs)) first.0 rest.0)
+  -- one request's gain, and then the others'
+  joined : (a b d first rest : List (List ℕ)) → b ≡ a ++ first → d ≡ b ++ rest → d ≡ a ++ (first ++ rest)
+  joined a b d first rest e f = f ∙ ap (λ t. t ++ rest) e ∙ append_assoc a first rest
+
+  pub all_grow : (s : InboxState) (rs : List Request) (marks : List Bool) (o : List ℕ) → (more : List (List ℕ)) × (by_part (log_at o (after_all s rs marks).logs) ≡ by_part (log_at o s.logs) ++ more)
+  all_grow s [] marks o = ([], sym (append-nil (by_part (log_at o s.logs))))
+  all_grow s (r ∷ rs) [] o =
+      let first = after_grows s r o in
+      let rest = all_grow (after s r) rs [] o in
+      (first.0 ++ rest.0, joined _ _ _ first.0 rest.0 first.1 rest.1)
+  all_grow s (r ∷ rs) (found ∷ marks) o =
+      let first = marked_grows s r found o in
+      let rest = all_grow (marked_after s r found) rs marks o in
+      (first.0 ++ rest.0, joined _ _ _ first.0 rest.0 first.1 rest.1)
 
 -- ---- kept replies
 
@@ -186,14 +194,15 @@ after_keeps s r o q reply kept = by (same_or_not o r.origin) (option_cases (log_
         let mine : finite.get l.replies q ≡ Some reply = ap (λ found. reply_by found q) (sym there) ∙ ap (λ p. reply_by (log_at p s.logs) q) (sym is) ∙ kept in
         ap (λ p. reply_by (log_at p (after s r).logs) q) is ∙ ap (λ found. reply_by found q) (own_steps s r l there) ∙ body_keeps l r.txn (body_of r.body) q reply mine
 
-marked_keeps : (s : InboxState) (m : Marked) (o q reply : List ℕ) → kept_reply s o q ≡ Some reply → kept_reply (marked_after s m.request m.found) o q ≡ Some reply
-marked_keeps s m o q reply kept =
-    elim m.found as (λ b. kept_reply (if b then after s m.request else s) o q ≡ Some reply)
-    [ true ↦ after_keeps s m.request o q reply kept | false ↦ kept ]
+marked_keeps : (s : InboxState) (r : Request) (found : Bool) (o q reply : List ℕ) → kept_reply s o q ≡ Some reply → kept_reply (marked_after s r found) o q ≡ Some reply
+marked_keeps s r found o q reply kept =
+    elim found as (λ b. kept_reply (if b then after s r else s) o q ≡ Some reply)
+    [ true ↦ after_keeps s r o q reply kept | false ↦ kept ]
 
-pub all_keep : (s : InboxState) (ms : List Marked) (o q reply : List ℕ) → kept_reply s o q ≡ Some reply → kept_reply (after_all s ms) o q ≡ Some reply
-all_keep s [] o q reply kept = kept
-all_keep s (m ∷ ms) o q reply kept = all_keep (marked_after s m.request m.found) ms o q reply (marked_keeps s m o q reply kept)
+pub all_keep : (s : InboxState) (rs : List Request) (marks : List Bool) (o q reply : List ℕ) → kept_reply s o q ≡ Some reply → kept_reply (after_all s rs marks) o q ≡ Some reply
+all_keep s [] marks o q reply kept = kept
+all_keep s (r ∷ rs) [] o q reply kept = all_keep (after s r) rs [] o q reply (after_keeps s r o q reply kept)
+all_keep s (r ∷ rs) (found ∷ marks) o q reply kept = all_keep (marked_after s r found) rs marks o q reply (marked_keeps s r found o q reply kept)
 
 -- ---- a repeat
 

@@ -2,21 +2,21 @@
 ghost use Rattle.std.specs.Prelude.{◌≡◌, ◌≢◌, ℕ, List, Bool, Some, ◌++◌};
 ghost use Rattle.fed_inbox.specs.Inbox.{InboxState, taken_of, taken_edus_of};
 ghost use Rattle.fed_inbox.specs.Answer.{Request, after, marked_after};
-ghost use Rattle.fed_inbox.specs.Runs.{Marked, after_all, kept_reply};
+ghost use Rattle.fed_inbox.specs.Runs.{after_all, kept_reply};
 
 /// A kept reply stays, whatever comes after it.
 pub fn kept_replies_stay()
-    ensures { (inbox : InboxState) (requests : List Marked) (origin txn reply : List ℕ)
+    ensures { (inbox : InboxState) (requests : List Request) (marks : List Bool) (origin txn reply : List ℕ)
         → kept_reply inbox origin txn ≡ Some reply
-        → kept_reply (after_all inbox requests) origin txn ≡ Some reply }
+        → kept_reply (after_all inbox requests marks) origin txn ≡ Some reply }
 {}
 
 /// What was taken from an origin only grows at its end.
 pub fn taken_grows()
-    ensures pdus { (inbox : InboxState) (requests : List Marked) (origin : List ℕ)
-        → (more : List (List ℕ)) × (taken_of (after_all inbox requests) origin ≡ taken_of inbox origin ++ more) }
-    ensures edus { (inbox : InboxState) (requests : List Marked) (origin : List ℕ)
-        → (more : List (List ℕ)) × (taken_edus_of (after_all inbox requests) origin ≡ taken_edus_of inbox origin ++ more) }
+    ensures pdus { (inbox : InboxState) (requests : List Request) (marks : List Bool) (origin : List ℕ)
+        → (more : List (List ℕ)) × (taken_of (after_all inbox requests marks) origin ≡ taken_of inbox origin ++ more) }
+    ensures edus { (inbox : InboxState) (requests : List Request) (marks : List Bool) (origin : List ℕ)
+        → (more : List (List ℕ)) × (taken_edus_of (after_all inbox requests marks) origin ≡ taken_edus_of inbox origin ++ more) }
 {}
 
 /// A request of one origin changes neither what was taken from another nor its kept replies.

@@ -1,0 +1,4 @@
+pub mod Writes
+pub mod WordLemmas
+pub mod LineLemmas
+pub mod Reached

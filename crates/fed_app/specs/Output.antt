@@ -1,0 +1,16 @@
+-- The text of the answers.
+use Rattle.std.specs.Prelude.{ℕ, List, ◌++◌, Bool, Option, codes, decimal}
+use Rattle.std.specs.List.{flat_map}
+use Rattle.fed_inbox.specs.Inbox.{InboxState}
+use Rattle.fed_inbox.specs.Reply.{Answer}
+use Rattle.fed_inbox.specs.Answer.{Request}
+use Rattle.fed_app.specs.Lines.{requests_of}
+use Rattle.fed_inbox.specs.Runs.{answers}
+
+-- the status in digits, a space, the body and a newline
+abbrev pub line_of : Answer → List ℕ
+line_of answer = decimal answer.status ++ codes " " ++ answer.body ++ codes "\n"
+
+-- a line for each request before the first line that has not the right words
+abbrev pub output_of : InboxState → List (Option Request) → List Bool → List ℕ
+output_of inbox words marks = flat_map line_of (answers inbox (requests_of words) marks)
