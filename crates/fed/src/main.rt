@@ -2,9 +2,11 @@
 #![tactic(auto)]
 
 use anyhow::Result;
+use clap::error::ErrorKind;
 use clap::{Arg, ArgMatches, Command};
 use fed_app::{InboxSetup, RunFault, inbox_run};
 use std::alloc::{AllocError, Global};
+use std::io;
 use std::process::ExitCode;
 
 const NAME: &str = "b.example";
@@ -13,26 +15,70 @@ const SERVERS: &str = "a.example";
 
 const ROOM: &str = "!r:a.example";
 
-fn main(rt: HostRuntime) -> Result<ExitCode> {
-    let alloc = rt.alloc();
-    let words: Vec<String> = std::env::args(&rt)?.collect(alloc)?;
-    let matches = match command(alloc)?.try_get_matches_from(words.as_slice()) {
-        Ok(matches) => matches,
-        Err(error) => {
-            error.print(&rt)?;
-            return Ok(ExitCode::from(if error.use_stderr() { 2 } else { 0 }));
+// Why there is nothing more to answer.
+#[derive(Drop)]
+enum Stop {
+    /// The command line is refused, or asks for help.
+    CommandLine(clap::Error),
+    /// An argument is not UTF-8.
+    NotText,
+    Fault(RunFault),
+}
+
+impl From<clap::Error> for Stop {
+    fn from(error: clap::Error) -> Stop {
+        if error.kind() == ErrorKind::OutOfMemory {
+            return Stop::Fault(RunFault::Memory);
         }
-    };
-    let done = match setup_of(alloc, &matches) {
-        Ok(setup) => inbox_run(alloc, rt.stdin(), &mut rt.stdout(), setup),
-        Err(AllocError) => Err(RunFault::Memory),
-    };
-    match done {
+        Stop::CommandLine(error)
+    }
+}
+
+impl From<AllocError> for Stop {
+    fn from(_error: AllocError) -> Stop {
+        Stop::Fault(RunFault::Memory)
+    }
+}
+
+impl From<RunFault> for Stop {
+    fn from(fault: RunFault) -> Stop {
+        Stop::Fault(fault)
+    }
+}
+
+fn main(rt: HostRuntime) -> Result<ExitCode> {
+    match run(&rt) {
         Ok(()) => Ok(ExitCode::SUCCESS),
-        Err(fault) => {
+        Err(Stop::CommandLine(error)) => {
+            error.print(&rt)?;
+            Ok(ExitCode::from(if error.use_stderr() { 2 } else { 0 }))
+        }
+        Err(Stop::NotText) => {
+            eprintln!(rt; "error: an argument is not UTF-8")?;
+            Ok(ExitCode::from(2))
+        }
+        Err(Stop::Fault(fault)) => {
             eprintln!(rt; "fed: {fault}")?;
             Ok(ExitCode::from(1))
         }
+    }
+}
+
+fn run(rt: &HostRuntime) -> Result<(), Stop> {
+    let alloc = rt.alloc();
+    let words = words(rt)?;
+    let matches = command(alloc)?.try_get_matches_from(words.as_slice())?;
+    let setup = setup_of(alloc, &matches)?;
+    inbox_run(alloc, rt.stdin(), &mut rt.stdout(), setup)?;
+    Ok(())
+}
+
+// The words of the command line.
+fn words(rt: &HostRuntime) -> Result<Vec<String>, Stop> {
+    match std::env::args(rt) {
+        Ok(words) => Ok(words.collect(rt.alloc())?),
+        Err(error) if error.kind() == io::ErrorKind::OutOfMemory => Err(RunFault::Memory)?,
+        Err(_) => Err(Stop::NotText),
     }
 }
 

@@ -1,14 +1,16 @@
 // The inbox of a server.
-ghost use Rattle.std.specs.Prelude.{◌≡◌, ◌<◌, [], map, length, position, string_bytes, IfOk, IfSome};
+ghost use Rattle.std.specs.Prelude.{◌≡◌, ◌<◌, [], None, Err, map, length, position, string_bytes, IfOk, IfSome, IsSome};
 ghost use Rattle.std.specs.List.{list_any};
 ghost use Rattle.fed_inbox.specs.LogParts.{texts_of};
-ghost use Rattle.fed_inbox.specs.Inbox.{new_inbox, with_servers, is_of, is_new, taken_of, taken_edus_of};
+ghost use Rattle.fed_inbox.specs.Reply.{refused};
+ghost use Rattle.fed_inbox.specs.Inbox.{new_inbox, with_servers, is_of, is_new, log_at, taken_of, taken_edus_of};
 ghost use Rattle.fed_inbox.specs.Answer.{IsAnswered, IsTried, request_of};
 
 use crate::log::Log;
 use crate::refusal::Refusal;
 use crate::reply::Reply;
 use fed_json::NoMemory;
+use fed_txn::MAX_BODY;
 use std::alloc::Global;
 use std::marker::Model;
 
@@ -70,9 +72,12 @@ impl Inbox {
     /// - 400 where a field of the body is missing or of another kind, or the body has too many PDUs or EDUs
     /// - else 200; the reply has a verdict for every PDU that is an object, and it is kept
     ///
-    /// Where memory runs out the answer is 500, and nothing is taken or kept.
+    /// Where memory runs out the answer is 500, and nothing is taken or kept. The first two are answered without memory.
     pub fn answer_body(&mut self, alloc: Global, origin: &str, txn: &str, body: &[u8]) -> Reply
-        ensures { IsAnswered self.old (request_of origin.now txn.now body.now) result self.new }
+        ensures answered { IsAnswered self.old (request_of origin.now txn.now body.now) result self.new }
+        ensures unlisted { log_at origin.now self.old.logs ≡ None → result ≡ refused Refusal.ServerNotListed }
+        ensures large { IsSome (log_at origin.now self.old.logs) → MAX_BODY < length body.now
+            → result ≡ refused Refusal.BodyTooLarge }
     {
         match self.try_answer(alloc, origin, txn, body) {
             Ok(body) => Reply::accepted(body),
@@ -107,7 +112,10 @@ impl Inbox {
         txn: &str,
         body: &[u8],
     ) -> Result<Vec<u8>, Refusal>
-        ensures { IsTried self.old (request_of origin.now txn.now body.now) result self.new }
+        ensures tried { IsTried self.old (request_of origin.now txn.now body.now) result self.new }
+        ensures unlisted { log_at origin.now self.old.logs ≡ None → result ≡ Err Refusal.ServerNotListed }
+        ensures large { IsSome (log_at origin.now self.old.logs) → MAX_BODY < length body.now
+            → result ≡ Err Refusal.BodyTooLarge }
     {
         match self.place(origin) {
             Some(place) => self.logs[place].answer(alloc, txn, body),

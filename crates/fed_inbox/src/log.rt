@@ -1,5 +1,5 @@
 // What was taken from one origin.
-ghost use Rattle.std.specs.Prelude.{◌≡◌, string_bytes, option_map, OnOk, OnErr, IfOk};
+ghost use Rattle.std.specs.Prelude.{◌≡◌, ◌<◌, Err, length, string_bytes, option_map, OnOk, OnErr, IfOk};
 ghost use Rattle.std.specs.FinMap as finite;
 ghost use Rattle.fed_inbox.specs.LogParts.{texts_of};
 ghost use Rattle.fed_inbox.specs.Inbox.{empty_log};
@@ -11,7 +11,7 @@ ghost use Rattle.fed_inbox.specs.OutcomeParts.{taking};
 use crate::outcome::Outcome;
 use crate::refusal::Refusal;
 use fed_json::{Json, NoMemory};
-use fed_txn::{TransactionIn, read_body};
+use fed_txn::{MAX_BODY, TransactionIn, read_body};
 use std::alloc::Global;
 use std::collections::BTreeMap;
 use std::marker::Model;
@@ -86,7 +86,8 @@ impl Log {
         txn: &str,
         body: &[u8],
     ) -> Result<Vec<u8>, Refusal>
-        ensures { IsStep self.old txn.now (body_of body.now) (answer_with result) self.new }
+        ensures step { IsStep self.old txn.now (body_of body.now) (answer_with result) self.new }
+        ensures large { MAX_BODY < length body.now → result ≡ Err Refusal.BodyTooLarge }
     {
         let body = read_body(alloc, body)?;
         if names_other_origin(&body, self.origin()) {

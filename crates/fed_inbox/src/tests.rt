@@ -171,107 +171,70 @@ fn answers_a_repeat_with_the_kept_reply(rt: HostRuntime) -> Result<(), Fail> {
 fn refuses_in_order(rt: HostRuntime) -> Result<(), Fail> {
     let alloc = rt.alloc();
     let mut inbox = inbox(alloc)?;
-    let forbidden = "{\"errcode\":\"M_FORBIDDEN\",\"error\":\"server not listed\"}";
-    check(
-        &rt,
-        alloc,
-        &mut inbox,
-        "x.example",
-        "1",
-        "{",
-        403,
-        forbidden,
-    );
-    check(
-        &rt,
-        alloc,
-        &mut inbox,
-        "b.example",
-        "1",
-        "{}",
-        403,
-        forbidden,
-    );
-    check(
-        &rt,
-        alloc,
-        &mut inbox,
-        "a.example",
-        "1",
-        "",
-        400,
-        "{\"errcode\":\"M_NOT_JSON\",\"error\":\"not json\"}",
-    );
-    check(
-        &rt,
-        alloc,
-        &mut inbox,
-        "a.example",
-        "1",
-        "[1.5]",
-        400,
-        "{\"errcode\":\"M_BAD_JSON\",\"error\":\"not canonical\"}",
-    );
-    check(
-        &rt,
-        alloc,
-        &mut inbox,
-        "a.example",
-        "1",
-        "{\"origin\":\"c.example\"}",
-        401,
-        "{\"errcode\":\"M_UNAUTHORIZED\",\"error\":\"origin differs\"}",
-    );
-    check(
-        &rt,
-        alloc,
-        &mut inbox,
-        "a.example",
-        "1",
-        "[]",
-        400,
-        "{\"errcode\":\"M_BAD_JSON\",\"error\":\"bad field: body\"}",
-    );
-    check(
-        &rt,
-        alloc,
-        &mut inbox,
-        "a.example",
-        "1",
-        "{\"origin\":5}",
-        400,
-        "{\"errcode\":\"M_BAD_JSON\",\"error\":\"bad field: origin\"}",
-    );
-    check(
-        &rt,
-        alloc,
-        &mut inbox,
-        "a.example",
-        "1",
-        "{\"origin\":\"a.example\",\"pdus\":[]}",
-        400,
-        "{\"errcode\":\"M_BAD_JSON\",\"error\":\"bad field: origin_server_ts\"}",
-    );
-    check(
-        &rt,
-        alloc,
-        &mut inbox,
-        "a.example",
-        "1",
-        "{\"origin\":\"a.example\",\"origin_server_ts\":1}",
-        400,
-        "{\"errcode\":\"M_BAD_JSON\",\"error\":\"bad field: pdus\"}",
-    );
-    check(
-        &rt,
-        alloc,
-        &mut inbox,
-        "a.example",
-        "1",
-        "{\"edus\":{},\"origin\":\"a.example\",\"origin_server_ts\":1,\"pdus\":[]}",
-        400,
-        "{\"errcode\":\"M_BAD_JSON\",\"error\":\"bad field: edus\"}",
-    );
+    for (origin, body, status, want) in [
+        (
+            "x.example",
+            "{",
+            403,
+            "{\"errcode\":\"M_FORBIDDEN\",\"error\":\"server not listed\"}",
+        ),
+        (
+            "b.example",
+            "{}",
+            403,
+            "{\"errcode\":\"M_FORBIDDEN\",\"error\":\"server not listed\"}",
+        ),
+        (
+            "a.example",
+            "",
+            400,
+            "{\"errcode\":\"M_NOT_JSON\",\"error\":\"not json\"}",
+        ),
+        (
+            "a.example",
+            "[1.5]",
+            400,
+            "{\"errcode\":\"M_BAD_JSON\",\"error\":\"not canonical\"}",
+        ),
+        (
+            "a.example",
+            "{\"origin\":\"c.example\"}",
+            401,
+            "{\"errcode\":\"M_UNAUTHORIZED\",\"error\":\"origin differs\"}",
+        ),
+        (
+            "a.example",
+            "[]",
+            400,
+            "{\"errcode\":\"M_BAD_JSON\",\"error\":\"bad field: body\"}",
+        ),
+        (
+            "a.example",
+            "{\"origin\":5}",
+            400,
+            "{\"errcode\":\"M_BAD_JSON\",\"error\":\"bad field: origin\"}",
+        ),
+        (
+            "a.example",
+            "{\"origin\":\"a.example\",\"pdus\":[]}",
+            400,
+            "{\"errcode\":\"M_BAD_JSON\",\"error\":\"bad field: origin_server_ts\"}",
+        ),
+        (
+            "a.example",
+            "{\"origin\":\"a.example\",\"origin_server_ts\":1}",
+            400,
+            "{\"errcode\":\"M_BAD_JSON\",\"error\":\"bad field: pdus\"}",
+        ),
+        (
+            "a.example",
+            "{\"edus\":{},\"origin\":\"a.example\",\"origin_server_ts\":1,\"pdus\":[]}",
+            400,
+            "{\"errcode\":\"M_BAD_JSON\",\"error\":\"bad field: edus\"}",
+        ),
+    ] {
+        check(&rt, alloc, &mut inbox, origin, "1", body, status, want);
+    }
     let long = vec![in alloc; b' '; 16_777_217]?;
     let reply = inbox.answer_body(alloc, "a.example", "1", &long);
     assert_eq!(rt; reply.status(), 413);
