@@ -6,3 +6,8 @@ pub mod Field
 pub mod Tests
 pub mod Verdict
 pub mod Laws
+pub mod Ids
+pub mod Fields
+pub mod ContentHash
+pub mod Signatures
+pub mod Checked

@@ -5,11 +5,13 @@
 //! - `signed`: the bytes of an event that are signed and hashed
 //! - `id`: `EventId`, the reference hash of an event as a text
 //! - `pdu`: `Pdu`, an event that has passed the tests
+//! - `checked`: `Checked`, an event that has passed the checks on receipt
 //! - `field`, `fault`: the fields of an event, and why a value is no event
 //! - `laws`: what holds of all redactions and ids
 //! - `kept`: the keys that redaction keeps
 #![tactic(auto)]
 
+mod checked;
 mod fault;
 mod field;
 mod id;
@@ -21,6 +23,7 @@ mod signed;
 #[cfg(test)]
 mod tests;
 
+pub use checked::Checked;
 pub use fault::PduFault;
 pub use field::Field;
 pub use id::{EventId, event_id};

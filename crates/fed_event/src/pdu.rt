@@ -8,7 +8,7 @@ ghost use Rattle.fed_event.specs.Tests.{first_fault_of, needed_fields};
 
 use crate::fault::PduFault;
 use crate::field::Field;
-use fed_json::{Json, canonical};
+use fed_json::{Json, NoMemory, canonical};
 use std::alloc::Global;
 use std::marker::Model;
 
@@ -81,6 +81,15 @@ impl Pdu {
         ensures passes { first_fault_of self.now ≡ None }
     {
         &self.json
+    }
+
+    /// An equal event.
+    pub fn copy(&self) -> Result<Pdu, NoMemory>
+        ensures { IfOk result (λ p. p ≡ self.now) }
+    {
+        Ok(Pdu {
+            json: self.json.copy()?,
+        })
     }
 
     /// The value, to keep.

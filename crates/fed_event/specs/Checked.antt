@@ -1,0 +1,35 @@
+-- An event that has passed the checks on receipt that need no room (Matrix, Server-Server API, "Checks performed on receipt of a
+-- PDU", checks 1 to 3).
+use Rattle.std.specs.Prelude.{ℕ, List, Bool, Option, refl, codes, if◌then◌else◌, option_and_then}
+use Rattle.std.specs.Coded.{Coded, code_by, coded×, coded_bool}
+use Rattle.serde_json.specs.Data.{Data}
+use Rattle.serde_json.specs.Find.{as_str, get}
+use Rattle.fed_json.specs.Code.{coded_data}
+use Rattle.fed_event.specs.Tests.{holds}
+use Rattle.fed_event.specs.Ids.{domain_of}
+use Rattle.fed_event.specs.Fields.{content_of}
+use Rattle.fed_event.specs.Redaction.{redacted}
+use Rattle.fed_event.specs.ContentHash.{hash_fits_of}
+use Rattle.fed_event.specs.Signatures.{Checks, is_signed_by}
+
+-- the event, and whether the server of the user that authorises its join has signed it
+pub record CheckedEvent : Type 0 where
+  pub event : Data
+  pub authorised : Bool
+
+abbrev pub checked_code : Coded CheckedEvent
+checked_code = code_by (Data × Bool) (coded× coded_data coded_bool) (λ c. (c.event, c.authorised)) (λ p. record { event = p.0; authorised = p.1 }) (λ _. refl)
+
+-- the user that authorises a join to a restricted room (room version 8, "Authorization rules")
+abbrev pub authorising_user_of : Data → Option (List ℕ)
+authorising_user_of event = option_and_then as_str (get (codes "join_authorised_via_users_server") (content_of event))
+
+abbrev pub is_authorised : Checks → Data → Bool
+is_authorised checks event = holds (λ user. is_signed_by checks (domain_of user) event) (authorising_user_of event)
+
+-- what is kept of an event whose sender's server has signed: the event, or its redaction where the content hash does not fit
+abbrev pub checked_of : Checks → Data → CheckedEvent
+checked_of checks event = record {
+  event = if hash_fits_of event then event else redacted event;
+  authorised = is_authorised checks event;
+}

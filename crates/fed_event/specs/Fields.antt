@@ -1,0 +1,58 @@
+-- What the fields of an event hold (Matrix, room version 10, "Event format"). A field that is not there, or of another kind, is
+-- read as empty; of an event that has passed its tests only `state_key` can be missing.
+use Rattle.std.specs.Prelude.{ℕ, ℤ, pos, List, [], Option, map, unwrap_or, option_and_then}
+use Rattle.serde_json.specs.Data.{Data, null}
+use Rattle.serde_json.specs.Find.{as_str}
+use Rattle.fed_json.specs.JsonRef.{as_whole, as_items}
+use Rattle.fed_event.specs.declared.field.Field.{Field}
+use Rattle.fed_event.specs.declared.field.Field.TheVariants.{AuthEvents, Content, Depth, Hashes, OriginServerTs, PrevEvents, RoomId, Sender, Signatures, StateKey, «Type»}
+use Rattle.fed_event.specs.Tests.{part}
+
+abbrev pub text_in : Data → List ℕ
+text_in value = unwrap_or (as_str value) []
+
+abbrev pub value_at : Field → Data → Data
+value_at field event = unwrap_or (part field event) null
+
+abbrev pub text_at : Field → Data → List ℕ
+text_at field event = unwrap_or (option_and_then as_str (part field event)) []
+
+abbrev pub whole_at : Field → Data → ℤ
+whole_at field event = unwrap_or (option_and_then as_whole (part field event)) (pos 0)
+
+abbrev pub texts_at : Field → Data → List (List ℕ)
+texts_at field event = map text_in (unwrap_or (option_and_then as_items (part field event)) [])
+
+abbrev pub auth_events_of : Data → List (List ℕ)
+auth_events_of = texts_at AuthEvents
+
+abbrev pub content_of : Data → Data
+content_of = value_at Content
+
+abbrev pub depth_of : Data → ℤ
+depth_of = whole_at Depth
+
+abbrev pub hashes_of : Data → Data
+hashes_of = value_at Hashes
+
+abbrev pub origin_server_ts_of : Data → ℤ
+origin_server_ts_of = whole_at OriginServerTs
+
+abbrev pub prev_events_of : Data → List (List ℕ)
+prev_events_of = texts_at PrevEvents
+
+abbrev pub room_id_of : Data → List ℕ
+room_id_of = text_at RoomId
+
+abbrev pub sender_of : Data → List ℕ
+sender_of = text_at Sender
+
+abbrev pub signatures_of : Data → Data
+signatures_of = value_at Signatures
+
+abbrev pub state_key_of : Data → Option (List ℕ)
+state_key_of event = option_and_then as_str (part StateKey event)
+
+-- the type
+abbrev pub kind_of : Data → List ℕ
+kind_of = text_at «Type»
