@@ -4,6 +4,7 @@ use Rattle.std.proofs.lemmas.List.{append-nil}
 use Rattle.std.proofs.lemmas.Slice.Eq.{bytes_eq-Decides}
 use Rattle.std.specs.FinMap as finite
 use Rattle.serde_json.specs.Data.{Data}
+use Rattle.fed_event.specs.Signatures.{Checks}
 use Rattle.fed_txn.specs.declared.fault.TxnFault.{TxnFault}
 use Rattle.fed_txn.specs.Transaction.{Transaction, transaction_of}
 use Rattle.fed_txn.specs.Reading.{body_of}
@@ -28,22 +29,22 @@ pub record Grows (old new : LogState) : Type 0 where
 same : (l : LogState) → Grows l l
 same l = record { origin = refl; pdus = ([], sym (append-nil l.pdus)); edus = ([], sym (append-nil l.edus)) }
 
-new_grows : (l : LogState) (txn : List ℕ) (t : Result Transaction TxnFault) → Grows l (step_new l txn t).log
-new_grows l txn (Err fault) = same l
-new_grows l txn (Ok t) = record { origin = refl; pdus = ((taking_of t).pdus, refl); edus = ((taking_of t).edus, refl) }
+new_grows : (checks : Checks) (rooms : List (List ℕ)) (l : LogState) (txn : List ℕ) (t : Result Transaction TxnFault) → Grows l (step_new checks rooms l txn t).log
+new_grows checks rooms l txn (Err fault) = same l
+new_grows checks rooms l txn (Ok t) = record { origin = refl; pdus = ((taking_of checks rooms t).pdus, refl); edus = ((taking_of checks rooms t).edus, refl) }
 
-kept_grows : (l : LogState) (txn : List ℕ) (d : Data) (o : Option (List ℕ)) → Grows l (step_kept l txn d o).log
-kept_grows l txn d (Some reply) = same l
-kept_grows l txn d None = new_grows l txn (transaction_of d)
+kept_grows : (checks : Checks) (rooms : List (List ℕ)) (l : LogState) (txn : List ℕ) (d : Data) (o : Option (List ℕ)) → Grows l (step_kept checks rooms l txn d o).log
+kept_grows checks rooms l txn d (Some reply) = same l
+kept_grows checks rooms l txn d None = new_grows checks rooms l txn (transaction_of d)
 
-body_grows : (l : LogState) (txn : List ℕ) (b : Result Data TxnFault) → Grows l (step_body l txn b).log
-body_grows l txn (Err fault) = same l
-body_grows l txn (Ok d) =
-    elim (names_other d l.origin) as (λ b. Grows l (if b then answered l (refused OriginDiffers) else step_kept l txn d (finite.get l.replies txn)).log)
-    [ true ↦ same l | false ↦ kept_grows l txn d (finite.get l.replies txn) ]
+body_grows : (checks : Checks) (rooms : List (List ℕ)) (l : LogState) (txn : List ℕ) (b : Result Data TxnFault) → Grows l (step_body checks rooms l txn b).log
+body_grows checks rooms l txn (Err fault) = same l
+body_grows checks rooms l txn (Ok d) =
+    elim (names_other d l.origin) as (λ b. Grows l (if b then answered l (refused OriginDiffers) else step_kept checks rooms l txn d (finite.get l.replies txn)).log)
+    [ true ↦ same l | false ↦ kept_grows checks rooms l txn d (finite.get l.replies txn) ]
 
-pub step_grows : (l : LogState) (r : Request) → Grows l (step_of l r).log
-step_grows l r = body_grows l r.txn (body_of r.body)
+pub step_grows : (checks : Checks) (rooms : List (List ℕ)) (l : LogState) (r : Request) → Grows l (step_of checks rooms l r).log
+step_grows checks rooms l r = body_grows checks rooms l r.txn (body_of r.body)
 
 -- ---- the log of an origin among the logs
 
@@ -101,15 +102,15 @@ option_cases : (o : Option LogState) → (o ≡ None) ⊎ ((l : LogState) × (o 
 option_cases None = inl refl
 option_cases (Some l) = inr (l, refl)
 
-pub other_stays : (s : InboxState) (r : Request) (o : List ℕ) → o ≢ r.origin → log_at o (after s r).logs ≡ log_at o s.logs
-other_stays s r o apart = by (option_cases (log_at r.origin s.logs))
+pub other_stays : (checks : Checks) (s : InboxState) (r : Request) (o : List ℕ) → o ≢ r.origin → log_at o (after checks s r).logs ≡ log_at o s.logs
+other_stays checks s r o apart = by (option_cases (log_at r.origin s.logs))
   where
-    by : (log_at r.origin s.logs ≡ None) ⊎ ((l : LogState) × (log_at r.origin s.logs ≡ Some l)) → log_at o (after s r).logs ≡ log_at o s.logs
-    by (inl none) = ap (λ found. log_at o (logs_by s.logs found r)) none
-    by (inr (l, there)) = ap (λ found. log_at o (logs_by s.logs found r)) there ∙ log_at-with_log_other o r.origin s.logs (step_of l r).log apart ((step_grows l r).origin ∙ found_is r.origin s.logs l there)
+    by : (log_at r.origin s.logs ≡ None) ⊎ ((l : LogState) × (log_at r.origin s.logs ≡ Some l)) → log_at o (after checks s r).logs ≡ log_at o s.logs
+    by (inl none) = ap (λ found. log_at o (logs_by checks s.rooms s.logs found r)) none
+    by (inr (l, there)) = ap (λ found. log_at o (logs_by checks s.rooms s.logs found r)) there ∙ log_at-with_log_other o r.origin s.logs (step_of checks s.rooms l r).log apart ((step_grows checks s.rooms l r).origin ∙ found_is r.origin s.logs l there)
 
-own_steps : (s : InboxState) (r : Request) (l : LogState) → log_at r.origin s.logs ≡ Some l → log_at r.origin (after s r).logs ≡ Some (step_of l r).log
-own_steps s r l there = ap (λ found. log_at r.origin (logs_by s.logs found r)) there ∙ log_at-with_log_same r.origin s.logs l (step_of l r).log there ((step_grows l r).origin ∙ found_is r.origin s.logs l there)
+own_steps : (checks : Checks) (s : InboxState) (r : Request) (l : LogState) → log_at r.origin s.logs ≡ Some l → log_at r.origin (after checks s r).logs ≡ Some (step_of checks s.rooms l r).log
+own_steps checks s r l there = ap (λ found. log_at r.origin (logs_by checks s.rooms s.logs found r)) there ∙ log_at-with_log_same r.origin s.logs l (step_of checks s.rooms l r).log there ((step_grows checks s.rooms l r).origin ∙ found_is r.origin s.logs l there)
 
 same_or_not : (o p : List ℕ) → (o ≡ p) ⊎ (o ≢ p)
 same_or_not o p = by (is_true_or_false (bytes_eq o p))
@@ -119,42 +120,42 @@ same_or_not o p = by (is_true_or_false (bytes_eq o p))
     by (inr f) = inr (λ e. let t : bytes_eq o p ≡ true = (bytes_eq-Decides o p).1 e in cc)
 
 -- what a reading of the log that only grows gains
-module _ (part : LogState → List (List ℕ)) (grows : (l : LogState) (r : Request) → (more : List (List ℕ)) × (part (step_of l r).log ≡ part l ++ more)) where
+module _ (part : LogState → List (List ℕ)) (grows : (checks : Checks) (rooms : List (List ℕ)) (l : LogState) (r : Request) → (more : List (List ℕ)) × (part (step_of checks rooms l r).log ≡ part l ++ more)) where
   abbrev by_part : Option LogState → List (List ℕ)
   by_part None = []
   by_part (Some l) = part l
 
-  after_grows : (s : InboxState) (r : Request) (o : List ℕ) → (more : List (List ℕ)) × (by_part (log_at o (after s r).logs) ≡ by_part (log_at o s.logs) ++ more)
-  after_grows s r o = by (same_or_not o r.origin) (option_cases (log_at r.origin s.logs))
+  after_grows : (checks : Checks) (s : InboxState) (r : Request) (o : List ℕ) → (more : List (List ℕ)) × (by_part (log_at o (after checks s r).logs) ≡ by_part (log_at o s.logs) ++ more)
+  after_grows checks s r o = by (same_or_not o r.origin) (option_cases (log_at r.origin s.logs))
     where
       by : (o ≡ r.origin) ⊎ (o ≢ r.origin) → (log_at r.origin s.logs ≡ None) ⊎ ((l : LogState) × (log_at r.origin s.logs ≡ Some l))
-          → (more : List (List ℕ)) × (by_part (log_at o (after s r).logs) ≡ by_part (log_at o s.logs) ++ more)
-      by (inr apart) found = ([], ap by_part (other_stays s r o apart) ∙ sym (append-nil (by_part (log_at o s.logs))))
-      by (inl is) (inl none) = ([], ap (λ found. by_part (log_at o (logs_by s.logs found r))) none ∙ sym (append-nil (by_part (log_at o s.logs))))
+          → (more : List (List ℕ)) × (by_part (log_at o (after checks s r).logs) ≡ by_part (log_at o s.logs) ++ more)
+      by (inr apart) found = ([], ap by_part (other_stays checks s r o apart) ∙ sym (append-nil (by_part (log_at o s.logs))))
+      by (inl is) (inl none) = ([], ap (λ found. by_part (log_at o (logs_by checks s.rooms s.logs found r))) none ∙ sym (append-nil (by_part (log_at o s.logs))))
       by (inl is) (inr (l, there)) = (
-        (grows l r).0,
-        ap (λ p. by_part (log_at p (after s r).logs)) is ∙ ap by_part (own_steps s r l there) ∙ (grows l r).1
-            ∙ ap (λ found. by_part found ++ (grows l r).0) (sym there) ∙ ap (λ p. by_part (log_at p s.logs) ++ (grows l r).0) (sym is),
+        (grows checks s.rooms l r).0,
+        ap (λ p. by_part (log_at p (after checks s r).logs)) is ∙ ap by_part (own_steps checks s r l there) ∙ (grows checks s.rooms l r).1
+            ∙ ap (λ found. by_part found ++ (grows checks s.rooms l r).0) (sym there) ∙ ap (λ p. by_part (log_at p s.logs) ++ (grows checks s.rooms l r).0) (sym is),
       )
 
-  marked_grows : (s : InboxState) (r : Request) (found : Bool) (o : List ℕ) → (more : List (List ℕ)) × (by_part (log_at o (marked_after s r found).logs) ≡ by_part (log_at o s.logs) ++ more)
-  marked_grows s r found o =
-      elim found as (λ b. (more : List (List ℕ)) × (by_part (log_at o (if b then after s r else s).logs) ≡ by_part (log_at o s.logs) ++ more))
-      [ true ↦ after_grows s r o | false ↦ ([], sym (append-nil (by_part (log_at o s.logs)))) ]
+  marked_grows : (checks : Checks) (s : InboxState) (r : Request) (found : Bool) (o : List ℕ) → (more : List (List ℕ)) × (by_part (log_at o (marked_after checks s r found).logs) ≡ by_part (log_at o s.logs) ++ more)
+  marked_grows checks s r found o =
+      elim found as (λ b. (more : List (List ℕ)) × (by_part (log_at o (if b then after checks s r else s).logs) ≡ by_part (log_at o s.logs) ++ more))
+      [ true ↦ after_grows checks s r o | false ↦ ([], sym (append-nil (by_part (log_at o s.logs)))) ]
 
   -- one request's gain, and then the others'
   joined : (a b d first rest : List (List ℕ)) → b ≡ a ++ first → d ≡ b ++ rest → d ≡ a ++ (first ++ rest)
   joined a b d first rest e f = f ∙ ap (λ t. t ++ rest) e ∙ append_assoc a first rest
 
-  pub all_grow : (s : InboxState) (rs : List Request) (marks : List Bool) (o : List ℕ) → (more : List (List ℕ)) × (by_part (log_at o (after_all s rs marks).logs) ≡ by_part (log_at o s.logs) ++ more)
-  all_grow s [] marks o = ([], sym (append-nil (by_part (log_at o s.logs))))
-  all_grow s (r ∷ rs) [] o =
-      let first = after_grows s r o in
-      let rest = all_grow (after s r) rs [] o in
+  pub all_grow : (checks : Checks) (s : InboxState) (rs : List Request) (marks : List Bool) (o : List ℕ) → (more : List (List ℕ)) × (by_part (log_at o (after_all checks s rs marks).logs) ≡ by_part (log_at o s.logs) ++ more)
+  all_grow checks s [] marks o = ([], sym (append-nil (by_part (log_at o s.logs))))
+  all_grow checks s (r ∷ rs) [] o =
+      let first = after_grows checks s r o in
+      let rest = all_grow checks (after checks s r) rs [] o in
       (first.0 ++ rest.0, joined _ _ _ first.0 rest.0 first.1 rest.1)
-  all_grow s (r ∷ rs) (found ∷ marks) o =
-      let first = marked_grows s r found o in
-      let rest = all_grow (marked_after s r found) rs marks o in
+  all_grow checks s (r ∷ rs) (found ∷ marks) o =
+      let first = marked_grows checks s r found o in
+      let rest = all_grow checks (marked_after checks s r found) rs marks o in
       (first.0 ++ rest.0, joined _ _ _ first.0 rest.0 first.1 rest.1)
 
 -- ---- kept replies
@@ -170,47 +171,47 @@ get-insert_kept m k v q reply absent kept = finite.get-insert nat_list_cmp_total
         absurd (cc)
     by (inr f) = ap (λ b. cond b (Some v) (finite.get m q)) (is_eq-slice_cmp q k ∙ f) ∙ kept
 
-new_keeps : (l : LogState) (txn : List ℕ) (t : Result Transaction TxnFault) (q reply : List ℕ) → finite.get l.replies txn ≡ None → finite.get l.replies q ≡ Some reply → finite.get (step_new l txn t).log.replies q ≡ Some reply
-new_keeps l txn (Err fault) q reply absent kept = kept
-new_keeps l txn (Ok t) q reply absent kept = get-insert_kept l.replies txn (taking_of t).reply q reply absent kept
+new_keeps : (checks : Checks) (rooms : List (List ℕ)) (l : LogState) (txn : List ℕ) (t : Result Transaction TxnFault) (q reply : List ℕ) → finite.get l.replies txn ≡ None → finite.get l.replies q ≡ Some reply → finite.get (step_new checks rooms l txn t).log.replies q ≡ Some reply
+new_keeps checks rooms l txn (Err fault) q reply absent kept = kept
+new_keeps checks rooms l txn (Ok t) q reply absent kept = get-insert_kept l.replies txn (taking_of checks rooms t).reply q reply absent kept
 
-kept_keeps : (l : LogState) (txn : List ℕ) (d : Data) (o : Option (List ℕ)) (q reply : List ℕ) → finite.get l.replies txn ≡ o → finite.get l.replies q ≡ Some reply → finite.get (step_kept l txn d o).log.replies q ≡ Some reply
-kept_keeps l txn d (Some r) q reply is kept = kept
-kept_keeps l txn d None q reply is kept = new_keeps l txn (transaction_of d) q reply is kept
+kept_keeps : (checks : Checks) (rooms : List (List ℕ)) (l : LogState) (txn : List ℕ) (d : Data) (o : Option (List ℕ)) (q reply : List ℕ) → finite.get l.replies txn ≡ o → finite.get l.replies q ≡ Some reply → finite.get (step_kept checks rooms l txn d o).log.replies q ≡ Some reply
+kept_keeps checks rooms l txn d (Some r) q reply is kept = kept
+kept_keeps checks rooms l txn d None q reply is kept = new_keeps checks rooms l txn (transaction_of d) q reply is kept
 
-body_keeps : (l : LogState) (txn : List ℕ) (b : Result Data TxnFault) (q reply : List ℕ) → finite.get l.replies q ≡ Some reply → finite.get (step_body l txn b).log.replies q ≡ Some reply
-body_keeps l txn (Err fault) q reply kept = kept
-body_keeps l txn (Ok d) q reply kept =
-    elim (names_other d l.origin) as (λ b. finite.get (if b then answered l (refused OriginDiffers) else step_kept l txn d (finite.get l.replies txn)).log.replies q ≡ Some reply)
-    [ true ↦ kept | false ↦ kept_keeps l txn d (finite.get l.replies txn) q reply refl kept ]
+body_keeps : (checks : Checks) (rooms : List (List ℕ)) (l : LogState) (txn : List ℕ) (b : Result Data TxnFault) (q reply : List ℕ) → finite.get l.replies q ≡ Some reply → finite.get (step_body checks rooms l txn b).log.replies q ≡ Some reply
+body_keeps checks rooms l txn (Err fault) q reply kept = kept
+body_keeps checks rooms l txn (Ok d) q reply kept =
+    elim (names_other d l.origin) as (λ b. finite.get (if b then answered l (refused OriginDiffers) else step_kept checks rooms l txn d (finite.get l.replies txn)).log.replies q ≡ Some reply)
+    [ true ↦ kept | false ↦ kept_keeps checks rooms l txn d (finite.get l.replies txn) q reply refl kept ]
 
-after_keeps : (s : InboxState) (r : Request) (o q reply : List ℕ) → kept_reply s o q ≡ Some reply → kept_reply (after s r) o q ≡ Some reply
-after_keeps s r o q reply kept = by (same_or_not o r.origin) (option_cases (log_at r.origin s.logs))
+after_keeps : (checks : Checks) (s : InboxState) (r : Request) (o q reply : List ℕ) → kept_reply s o q ≡ Some reply → kept_reply (after checks s r) o q ≡ Some reply
+after_keeps checks s r o q reply kept = by (same_or_not o r.origin) (option_cases (log_at r.origin s.logs))
   where
-    by : (o ≡ r.origin) ⊎ (o ≢ r.origin) → (log_at r.origin s.logs ≡ None) ⊎ ((l : LogState) × (log_at r.origin s.logs ≡ Some l)) → kept_reply (after s r) o q ≡ Some reply
-    by (inr apart) found = ap (λ l. reply_by l q) (other_stays s r o apart) ∙ kept
-    by (inl is) (inl none) = ap (λ found. reply_by (log_at o (logs_by s.logs found r)) q) none ∙ kept
+    by : (o ≡ r.origin) ⊎ (o ≢ r.origin) → (log_at r.origin s.logs ≡ None) ⊎ ((l : LogState) × (log_at r.origin s.logs ≡ Some l)) → kept_reply (after checks s r) o q ≡ Some reply
+    by (inr apart) found = ap (λ l. reply_by l q) (other_stays checks s r o apart) ∙ kept
+    by (inl is) (inl none) = ap (λ found. reply_by (log_at o (logs_by checks s.rooms s.logs found r)) q) none ∙ kept
     by (inl is) (inr (l, there)) =
         let mine : finite.get l.replies q ≡ Some reply = ap (λ found. reply_by found q) (sym there) ∙ ap (λ p. reply_by (log_at p s.logs) q) (sym is) ∙ kept in
-        ap (λ p. reply_by (log_at p (after s r).logs) q) is ∙ ap (λ found. reply_by found q) (own_steps s r l there) ∙ body_keeps l r.txn (body_of r.body) q reply mine
+        ap (λ p. reply_by (log_at p (after checks s r).logs) q) is ∙ ap (λ found. reply_by found q) (own_steps checks s r l there) ∙ body_keeps checks s.rooms l r.txn (body_of r.body) q reply mine
 
-marked_keeps : (s : InboxState) (r : Request) (found : Bool) (o q reply : List ℕ) → kept_reply s o q ≡ Some reply → kept_reply (marked_after s r found) o q ≡ Some reply
-marked_keeps s r found o q reply kept =
-    elim found as (λ b. kept_reply (if b then after s r else s) o q ≡ Some reply)
-    [ true ↦ after_keeps s r o q reply kept | false ↦ kept ]
+marked_keeps : (checks : Checks) (s : InboxState) (r : Request) (found : Bool) (o q reply : List ℕ) → kept_reply s o q ≡ Some reply → kept_reply (marked_after checks s r found) o q ≡ Some reply
+marked_keeps checks s r found o q reply kept =
+    elim found as (λ b. kept_reply (if b then after checks s r else s) o q ≡ Some reply)
+    [ true ↦ after_keeps checks s r o q reply kept | false ↦ kept ]
 
-pub all_keep : (s : InboxState) (rs : List Request) (marks : List Bool) (o q reply : List ℕ) → kept_reply s o q ≡ Some reply → kept_reply (after_all s rs marks) o q ≡ Some reply
-all_keep s [] marks o q reply kept = kept
-all_keep s (r ∷ rs) [] o q reply kept = all_keep (after s r) rs [] o q reply (after_keeps s r o q reply kept)
-all_keep s (r ∷ rs) (found ∷ marks) o q reply kept = all_keep (marked_after s r found) rs marks o q reply (marked_keeps s r found o q reply kept)
+pub all_keep : (checks : Checks) (s : InboxState) (rs : List Request) (marks : List Bool) (o q reply : List ℕ) → kept_reply s o q ≡ Some reply → kept_reply (after_all checks s rs marks) o q ≡ Some reply
+all_keep checks s [] marks o q reply kept = kept
+all_keep checks s (r ∷ rs) [] o q reply kept = all_keep checks (after checks s r) rs [] o q reply (after_keeps checks s r o q reply kept)
+all_keep checks s (r ∷ rs) (found ∷ marks) o q reply kept = all_keep checks (marked_after checks s r found) rs marks o q reply (marked_keeps checks s r found o q reply kept)
 
 -- ---- a repeat
 
-body_repeats : (l : LogState) (txn : List ℕ) (b : Result Data TxnFault) (reply : List ℕ) → finite.get l.replies txn ≡ Some reply → (step_body l txn b).log ≡ l
-body_repeats l txn (Err fault) reply kept = refl
-body_repeats l txn (Ok d) reply kept =
-    elim (names_other d l.origin) as (λ b. (if b then answered l (refused OriginDiffers) else step_kept l txn d (finite.get l.replies txn)).log ≡ l)
-    [ true ↦ refl | false ↦ ap (λ o. (step_kept l txn d o).log) kept ]
+body_repeats : (checks : Checks) (rooms : List (List ℕ)) (l : LogState) (txn : List ℕ) (b : Result Data TxnFault) (reply : List ℕ) → finite.get l.replies txn ≡ Some reply → (step_body checks rooms l txn b).log ≡ l
+body_repeats checks rooms l txn (Err fault) reply kept = refl
+body_repeats checks rooms l txn (Ok d) reply kept =
+    elim (names_other d l.origin) as (λ b. (if b then answered l (refused OriginDiffers) else step_kept checks rooms l txn d (finite.get l.replies txn)).log ≡ l)
+    [ true ↦ refl | false ↦ ap (λ o. (step_kept checks rooms l txn d o).log) kept ]
 
 -- a log put back in its own place changes nothing
 put_back : (o : List ℕ) (ls : List LogState) (l : LogState) → log_at o ls ≡ Some l → with_log o ls l ≡ ls
@@ -227,16 +228,16 @@ put_back o (m ∷ ls) l h = by (is_true_or_false (is_of o m)) (put_back o ls l)
 with_logs : (s : InboxState) {ls : List LogState} → ls ≡ s.logs → ◌≡◌ {A = InboxState} (record { own = s.own; rooms = s.rooms; logs = ls }) s
 with_logs s e i = record { own = s.own; rooms = s.rooms; logs = e i }
 
-pub repeat_stays : (s : InboxState) (r : Request) (reply : List ℕ) → kept_reply s r.origin r.txn ≡ Some reply → after s r ≡ s
-repeat_stays s r reply kept = by (option_cases (log_at r.origin s.logs))
+pub repeat_stays : (checks : Checks) (s : InboxState) (r : Request) (reply : List ℕ) → kept_reply s r.origin r.txn ≡ Some reply → after checks s r ≡ s
+repeat_stays checks s r reply kept = by (option_cases (log_at r.origin s.logs))
   where
-    by : (log_at r.origin s.logs ≡ None) ⊎ ((l : LogState) × (log_at r.origin s.logs ≡ Some l)) → after s r ≡ s
-    by (inl none) = with_logs s (ap (λ found. logs_by s.logs found r) none)
+    by : (log_at r.origin s.logs ≡ None) ⊎ ((l : LogState) × (log_at r.origin s.logs ≡ Some l)) → after checks s r ≡ s
+    by (inl none) = with_logs s (ap (λ found. logs_by checks s.rooms s.logs found r) none)
     by (inr (l, there)) =
         let mine : finite.get l.replies r.txn ≡ Some reply = ap (λ found. reply_by found r.txn) (sym there) ∙ kept in
-        with_logs s (ap (λ found. logs_by s.logs found r) there ∙ ap (with_log r.origin s.logs) (body_repeats l r.txn (body_of r.body) reply mine) ∙ put_back r.origin s.logs l there)
+        with_logs s (ap (λ found. logs_by checks s.rooms s.logs found r) there ∙ ap (with_log r.origin s.logs) (body_repeats checks s.rooms l r.txn (body_of r.body) reply mine) ∙ put_back r.origin s.logs l there)
 
-pub marked_other : (s : InboxState) (r : Request) (found : Bool) (o : List ℕ) → o ≢ r.origin → log_at o (marked_after s r found).logs ≡ log_at o s.logs
-marked_other s r found o apart =
-    elim found as (λ b. log_at o (if b then after s r else s).logs ≡ log_at o s.logs)
-    [ true ↦ other_stays s r o apart | false ↦ refl ]
+pub marked_other : (checks : Checks) (s : InboxState) (r : Request) (found : Bool) (o : List ℕ) → o ≢ r.origin → log_at o (marked_after checks s r found).logs ≡ log_at o s.logs
+marked_other checks s r found o apart =
+    elim found as (λ b. log_at o (if b then after checks s r else s).logs ≡ log_at o s.logs)
+    [ true ↦ other_stays checks s r o apart | false ↦ refl ]

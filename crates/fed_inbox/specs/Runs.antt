@@ -1,22 +1,24 @@
 -- What an inbox answers to requests in turn, and its state after them. Each request is marked whether memory was found for it.
 use Rattle.std.specs.Prelude.{ℕ, List, [], ◌∷◌, Bool, Option, Some, None}
 use Rattle.std.specs.FinMap as finite
+use Rattle.fed_event.specs.Signatures.{Checks}
 use Rattle.fed_inbox.specs.Reply.{Answer}
 use Rattle.fed_inbox.specs.Log.{LogState}
 use Rattle.fed_inbox.specs.Inbox.{InboxState, log_at}
 use Rattle.fed_inbox.specs.Answer.{Request, answer_to, after, marked_answer, marked_after}
 
--- the answers, in order; where a mark is missing, memory was found
-abbrev pub answers : InboxState → List Request → List Bool → List Answer
-answers inbox [] marks = []
-answers inbox (request ∷ requests) [] = answer_to inbox request ∷ answers (after inbox request) requests []
-answers inbox (request ∷ requests) (found ∷ marks) = marked_answer inbox request found ∷ answers (marked_after inbox request found) requests marks
+module _ (checks : Checks) where
+  -- the answers, in order; where a mark is missing, memory was found
+  abbrev pub answers : InboxState → List Request → List Bool → List Answer
+  answers inbox [] marks = []
+  answers inbox (request ∷ requests) [] = answer_to checks inbox request ∷ answers (after checks inbox request) requests []
+  answers inbox (request ∷ requests) (found ∷ marks) = marked_answer checks inbox request found ∷ answers (marked_after checks inbox request found) requests marks
 
--- the state after them
-abbrev pub after_all : InboxState → List Request → List Bool → InboxState
-after_all inbox [] marks = inbox
-after_all inbox (request ∷ requests) [] = after_all (after inbox request) requests []
-after_all inbox (request ∷ requests) (found ∷ marks) = after_all (marked_after inbox request found) requests marks
+  -- the state after them
+  abbrev pub after_all : InboxState → List Request → List Bool → InboxState
+  after_all inbox [] marks = inbox
+  after_all inbox (request ∷ requests) [] = after_all (after checks inbox request) requests []
+  after_all inbox (request ∷ requests) (found ∷ marks) = after_all (marked_after checks inbox request found) requests marks
 
 abbrev pub reply_by : Option LogState → List ℕ → Option (List ℕ)
 reply_by None txn = None

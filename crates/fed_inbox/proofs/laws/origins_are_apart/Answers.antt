@@ -5,10 +5,10 @@ use Rattle.fed_inbox.proofs.Runs.{marked_other}
 use Rattle.fed_inbox.proofs.laws.origins_are_apart.Goals as goal
 
 pub returns-clause-pdus : goal.returns-clause-pdus
-returns-clause-pdus c s r found o apart = ap pdus_by (marked_other s r found o apart)
+returns-clause-pdus c checks s r found o apart = ap pdus_by (marked_other checks s r found o apart)
 
 pub returns-clause-edus : goal.returns-clause-edus
-returns-clause-edus c s r found o apart = ap edus_by (marked_other s r found o apart)
+returns-clause-edus c checks s r found o apart = ap edus_by (marked_other checks s r found o apart)
 
 pub returns-clause-replies : goal.returns-clause-replies
-returns-clause-replies c s r found o txn apart = ap (λ l. reply_by l txn) (marked_other s r found o apart)
+returns-clause-replies c checks s r found o txn apart = ap (λ l. reply_by l txn) (marked_other checks s r found o apart)

@@ -3,7 +3,7 @@ use Rattle.fed_inbox.specs.Log.{LogState}
 use Rattle.fed_inbox.proofs.laws.taken_grows.Goals as goal
 
 pub returns-clause-pdus : goal.returns-clause-pdus
-returns-clause-pdus c = all_grow (λ (l : LogState). l.pdus) (λ l r. (step_grows l r).pdus)
+returns-clause-pdus c = all_grow (λ (l : LogState). l.pdus) (λ checks rooms l r. (step_grows checks rooms l r).pdus)
 
 pub returns-clause-edus : goal.returns-clause-edus
-returns-clause-edus c = all_grow (λ (l : LogState). l.edus) (λ l r. (step_grows l r).edus)
+returns-clause-edus c = all_grow (λ (l : LogState). l.edus) (λ checks rooms l r. (step_grows checks rooms l r).edus)
