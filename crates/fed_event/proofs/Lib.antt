@@ -3,4 +3,5 @@ pub mod Redacting
 pub mod Plain
 pub mod Parts
 pub mod Building
-pub mod FirstFault
+pub mod Faults
+pub mod Reading
