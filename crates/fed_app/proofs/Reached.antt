@@ -3,6 +3,8 @@ use Rattle.std.proofs.Common.{◌≡◌, ℕ, ◌+◌, List, [], ◌∷◌, ◌+
 use Rattle.std.specs.Prelude.{IsErrAnd}
 use Rattle.std.specs.List.{position_from}
 use Rattle.std.specs.Io.KnownBytes.{Appends}
+use Rattle.fed_event.specs.Checked.{CheckedEvent}
+use Rattle.fed_event.specs.Keys.{trusting_checks}
 use Rattle.fed_inbox.specs.Inbox.{InboxState}
 use Rattle.fed_inbox.specs.Reply.{Answer}
 use Rattle.fed_inbox.specs.Answer.{Request, IsAnswered}
@@ -62,7 +64,7 @@ module _ (start : InboxState) (words : List (Option Request)) (before now : Opti
 
   -- what an answer adds to the output
   answer_adds : (request : Request) (later : List (Option Request)) (answer : Answer) (new : InboxState) → words_in reached.rest ≡ Some request ∷ later
-      → (step : IsAnswered inbox request answer new) → (more : List Bool)
+      → {fresh : List CheckedEvent} → (step : IsAnswered trusting_checks inbox request answer new fresh) → (more : List Bool)
       → output_of start words ((reached.marks ++ step.found ∷ []) ++ more) ≡ (reached.written ++ line_of answer) ++ output_of new later more
   answer_adds request later answer new first step more =
       let asked = ap (output_of start words) (append_assoc reached.marks (step.found ∷ []) more) in
@@ -72,7 +74,7 @@ module _ (start : InboxState) (words : List (Option Request)) (before now : Opti
 
   -- a front of the answer's line was written
   cut_inside : (request : Request) (later : List (Option Request)) (answer : Answer) (new : InboxState) (after : Option (List ℕ)) → words_in reached.rest ≡ Some request ∷ later
-      → IsAnswered inbox request answer new → AppendsFront now after (line_of answer) → IsCut start words before after
+      → {fresh : List CheckedEvent} → IsAnswered trusting_checks inbox request answer new fresh → AppendsFront now after (line_of answer) → IsCut start words before after
   cut_inside request later answer new after first step part =
       let (front, rest, split, appended) = part in
       let w = reached.written in
@@ -83,7 +85,7 @@ module _ (start : InboxState) (words : List (Option Request)) (before now : Opti
 
   -- the whole line was
   one_further : (request : Request) (more : List ℕ) (answer : Answer) (new : InboxState) (after : Option (List ℕ)) → words_in reached.rest ≡ Some request ∷ words_in more
-      → IsAnswered inbox request answer new → Appends now after (line_of answer) → Reached start words before after new (Some more) (number + 1)
+      → {fresh : List CheckedEvent} → IsAnswered trusting_checks inbox request answer new fresh → Appends now after (line_of answer) → Reached start words before after new (Some more) (number + 1)
   one_further request more answer new after first step appended = record {
     rest = more;
     left_is = refl;
@@ -135,7 +137,7 @@ module _ (known : Option (List ℕ)) (start : InboxState) (before now : Option (
   read_fails kind result of = if_known known (λ bytes reached. by_result start _ before now kind result of (cut_here start _ before now inbox left number reached)) runs
 
   module _ (line : List ℕ) (then : Option (List ℕ)) (took : IfSome left (λ bytes. TakesFirst bytes then line)) (request : Request) (is : Some request ≡ words_of line)
-      (answer : Answer) (new : InboxState) (step : IsAnswered inbox request answer new) (after : Option (List ℕ)) where
+      (answer : Answer) (new : InboxState) {fresh : List CheckedEvent} (step : IsAnswered trusting_checks inbox request answer new fresh) (after : Option (List ℕ)) where
     pub write_fails : (kind : ErrorKind) (result : Result (Unit {0}) RunFault) → IsErrAnd result (IsFaultOf kind) → AppendsFront now after (line_of answer) → Ends known start before after result
     write_fails kind result of part =
         if_known known (λ bytes reached.

@@ -1,6 +1,7 @@
 -- The text of the answers.
 use Rattle.std.specs.Prelude.{ℕ, List, ◌++◌, Bool, Option, codes, decimal}
 use Rattle.std.specs.List.{flat_map}
+use Rattle.fed_event.specs.Keys.{trusting_checks}
 use Rattle.fed_inbox.specs.Inbox.{InboxState}
 use Rattle.fed_inbox.specs.Reply.{Answer}
 use Rattle.fed_inbox.specs.Answer.{Request}
@@ -11,6 +12,6 @@ use Rattle.fed_inbox.specs.Runs.{answers}
 abbrev pub line_of : Answer → List ℕ
 line_of answer = decimal answer.status ++ codes " " ++ answer.body ++ codes "\n"
 
--- a line for each request before the first line that has not the right words
+-- a line for each request before the first line that has not the right words; every signature of an event checks
 abbrev pub output_of : InboxState → List (Option Request) → List Bool → List ℕ
-output_of inbox words marks = flat_map line_of (answers inbox (requests_of words) marks)
+output_of inbox words marks = flat_map line_of (answers trusting_checks inbox (requests_of words) marks)

@@ -11,6 +11,7 @@ use crate::fault::RunFault;
 use crate::limited::Limited;
 use crate::setup::InboxSetup;
 use crate::words::words_of;
+use fed_event::Trusting;
 use fed_inbox::{Inbox, Reply};
 use fed_json::NoMemory;
 use std::alloc::Global;
@@ -24,7 +25,7 @@ pub const MAX_READS: u64 = 40_000_000;
 const BUFFER: usize = 65_536;
 
 /// Reads lines `<origin> <txnId> <body>` and writes, for each of them, the line `<status> <reply body>` of an inbox that begins
-/// empty (Server-Server API, "Transactions"). Each line is written and flushed before the next one is read. The first two spaces
+/// empty (Server-Server API, "Transactions"). Every signature of an event that decodes counts as right. Each line is written and flushed before the next one is read. The first two spaces
 /// of a line end its first two parts, and the end of the input ends a line too.
 ///
 /// # Errors
@@ -47,20 +48,22 @@ pub fn inbox_run<R: Read + Drop, W: Write>(
         servers,
         rooms,
     } = setup;
+    let keys = Trusting::new(String::from_str(alloc, &own)?);
     let inbox = Inbox::new(alloc, own, servers, rooms)?;
     let mut input = BufReader::with_capacity(alloc, BUFFER, Limited::new(reader, MAX_READS))?;
-    answer_lines(alloc, inbox, &mut input, writer)
+    answer_lines(alloc, inbox, &keys, &mut input, writer)
 }
 
 // Answers the lines of an input, one after another.
 fn answer_lines<B: BufRead, W: Write>(
     alloc: Global,
     mut inbox: Inbox,
+    keys: &Trusting,
     input: &mut B,
     writer: &mut W,
 ) -> Result<(), RunFault>
     ensures { IfSome (B.remaining input.old) (λ bytes.
-        IsEnd inbox (words_in bytes) (W.contents writer.old) (W.contents writer.new) result) }
+        IsEnd inbox.state (words_in bytes) (W.contents writer.old) (W.contents writer.new) result) }
 {
     let mut line = Vec::new(alloc);
     let mut out = Vec::new(alloc);
@@ -71,7 +74,7 @@ fn answer_lines<B: BufRead, W: Write>(
         let Some(words) = words_of(&line) else {
             return Err(RunFault::WrongWords { line: number });
         };
-        let reply = inbox.answer_body(alloc, words.origin, words.txn, words.body);
+        let reply = inbox.answer_body(alloc, words.origin, words.txn, words.body, keys);
         write_reply(writer, &mut out, &reply)?;
     }
     // More lines than the input can be read for.

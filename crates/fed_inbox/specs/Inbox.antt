@@ -4,6 +4,8 @@ use Rattle.std.specs.Str.{bytes_eq}
 use Rattle.std.specs.List.{list_any}
 use Rattle.std.specs.FinMap as finite
 use Rattle.std.specs.Coded.{Coded, code_by, coded×, coded_ℕ, coded_list}
+use Rattle.fed_event.specs.Checked.{CheckedEvent, checked_code}
+use Rattle.fed_inbox.specs.Rooms.{room_set}
 use Rattle.fed_inbox.specs.Log.{LogState, log_code}
 
 pub record InboxState : Type 0 where
@@ -18,6 +20,14 @@ inbox_code =
     (λ s. (s.own, (s.rooms, s.logs)))
     (λ p. record { own = p.0; rooms = p.1.0; logs = p.1.1 })
     (λ _. refl)
+
+-- the state, and the events that the newest answer took for the rooms and that are not handed out yet
+pub record Held : Type 0 where
+  pub state : InboxState
+  pub fresh : List CheckedEvent
+
+abbrev pub held_code : Coded Held
+held_code = code_by (InboxState × List CheckedEvent) (coded× inbox_code (coded_list checked_code)) (λ h. (h.state, h.fresh)) (λ p. record { state = p.0; fresh = p.1 }) (λ _. refl)
 
 -- the log of an origin that nothing was taken from
 abbrev pub empty_log : List ℕ → LogState
@@ -49,7 +59,10 @@ with_servers own logs (server ∷ servers) = with_servers own (with_server own l
 
 -- an inbox that nothing came to
 abbrev pub new_inbox : List ℕ → List (List ℕ) → List (List ℕ) → InboxState
-new_inbox own servers rooms = record { own = own; rooms = rooms; logs = with_servers own [] servers }
+new_inbox own servers rooms = record { own = own; rooms = room_set rooms; logs = with_servers own [] servers }
+
+abbrev pub new_held : List ℕ → List (List ℕ) → List (List ℕ) → Held
+new_held own servers rooms = record { state = new_inbox own servers rooms; fresh = [] }
 
 -- the texts taken from an origin, in order: none from a server that is not listed
 abbrev pub pdus_by : Option LogState → List (List ℕ)

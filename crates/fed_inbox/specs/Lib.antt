@@ -3,8 +3,13 @@ pub mod Reply
 pub mod ReplyParts
 pub mod Log
 pub mod LogParts
+pub mod Rooms
 pub mod Taking
+pub mod FaultText
+pub mod ReceivedParts
 pub mod OutcomeParts
 pub mod Inbox
+pub mod InboxParts
 pub mod Answer
+pub mod AnswerParts
 pub mod Runs

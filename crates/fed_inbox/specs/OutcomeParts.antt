@@ -4,4 +4,4 @@ use Rattle.fed_inbox.specs.LogParts.{texts_of}
 use Rattle.fed_inbox.specs.Taking.{Taking}
 
 abbrev pub taking : Outcome → Taking
-taking o = record { pdus = texts_of o.pdus.items; edus = texts_of o.edus.items; reply = o.reply.items }
+taking o = record { pdus = texts_of o.pdus.items; edus = texts_of o.edus.items; fresh = o.fresh.items; reply = o.reply.items }

@@ -1,36 +1,43 @@
 // The inbox of a server.
 ghost use Rattle.std.specs.Prelude.{◌≡◌, ◌<◌, [], None, Err, map, length, position, string_bytes, IfOk, IfSome, IsSome};
 ghost use Rattle.std.specs.List.{list_any};
+ghost use Rattle.fed_event.specs.Names.{is_one_of};
 ghost use Rattle.fed_inbox.specs.LogParts.{texts_of};
 ghost use Rattle.fed_inbox.specs.Reply.{refused};
-ghost use Rattle.fed_inbox.specs.Inbox.{new_inbox, with_servers, is_of, is_new, log_at, taken_of, taken_edus_of};
-ghost use Rattle.fed_inbox.specs.Answer.{IsAnswered, IsTried, request_of};
+ghost use Rattle.fed_inbox.specs.Inbox.{new_held, with_servers, is_of, is_new, log_at, taken_of, taken_edus_of};
+ghost use Rattle.fed_inbox.specs.Answer.{IsAnswered, request_of};
+ghost use Rattle.fed_inbox.specs.AnswerParts.{IsTried};
 
-use crate::log::Log;
+use crate::log::{Accepted, Log};
 use crate::refusal::Refusal;
 use crate::reply::Reply;
+use crate::rooms::Rooms;
+use fed_event::{Checked, Keys};
 use fed_json::NoMemory;
 use fed_txn::MAX_BODY;
 use std::alloc::Global;
 use std::marker::Model;
 
 /// The transactions that a server was sent: what it took of them, and the replies that it gave.
+///
+/// Contracts see it as its state, and beside it the events that the newest answer took for the rooms and that are not handed out.
 #[derive(Drop)]
 pub struct Inbox {
     own: String,
-    rooms: Vec<String>,
+    rooms: Rooms,
     logs: Vec<Log>,
+    fresh: Vec<Checked>,
 }
 
 impl Model for Inbox {
-    ghost use Rattle.std.specs.Prelude.{map, string_bytes};
-    ghost use Rattle.fed_inbox.specs.Inbox.{InboxState, inbox_code};
+    ghost use Rattle.fed_inbox.specs.Inbox.{Held, held_code};
+    ghost use Rattle.fed_inbox.specs.InboxParts.{state_of};
 
-    ghost Value = { InboxState };
+    ghost Value = { Held };
 
-    ghost coded = { inbox_code };
+    ghost coded = { held_code };
 
-    ghost view = { λ i. record { own = string_bytes i.own; rooms = map string_bytes i.rooms.items; logs = i.logs.items } };
+    ghost view = { λ i. record { state = state_of i; fresh = i.fresh.items } };
 }
 
 impl Inbox {
@@ -41,25 +48,31 @@ impl Inbox {
         servers: Vec<String>,
         rooms: Vec<String>,
     ) -> Result<Inbox, NoMemory>
-        ensures { IfOk result (λ inbox. inbox ≡ new_inbox (string_bytes own)
+        ensures { IfOk result (λ inbox. inbox ≡ new_held (string_bytes own)
             (map string_bytes servers.items) (map string_bytes rooms.items)) }
     {
         let logs = logs_of(alloc, &own, servers)?;
-        Ok(Inbox { own, rooms, logs })
+        let rooms = Rooms::new(alloc, rooms)?;
+        Ok(Inbox {
+            own,
+            rooms,
+            logs,
+            fresh: Vec::new(alloc),
+        })
     }
 
     /// The name of the server.
     pub fn own(&self) -> &str
-        ensures { result.now ≡ self.now.own }
+        ensures { result.now ≡ self.now.state.own }
     {
         self.own.as_str()
     }
 
-    /// The rooms that the server knows.
-    pub fn rooms(&self) -> &[String]
-        ensures { map string_bytes result.now ≡ self.now.rooms }
+    /// Whether the server knows the room of this id.
+    pub fn knows(&self, room: &str) -> bool
+        ensures { result ≡ is_one_of self.now.state.rooms room.now }
     {
-        self.rooms.as_slice()
+        self.rooms.contains(room)
     }
 
     /// Answers the transaction `txn` of `origin`, and takes it where the answer is its first 200. The first of these decides:
@@ -72,22 +85,51 @@ impl Inbox {
     /// - 400 where a field of the body is missing or of another kind, or the body has too many PDUs or EDUs
     /// - else 200; the reply has a verdict for every PDU that is an object, and it is kept
     ///
+    /// A verdict is the first fault of the event: of its fields, that no key of its sender's server has signed it, or that its room
+    /// is not known. The events without a fault wait for `fresh` until the next answer.
+    ///
     /// Where memory runs out the answer is 500, and nothing is taken or kept. The first two are answered without memory.
-    pub fn answer_body(&mut self, alloc: Global, origin: &str, txn: &str, body: &[u8]) -> Reply
-        ensures answered { IsAnswered self.old (request_of origin.now txn.now body.now) result self.new }
-        ensures unlisted { log_at origin.now self.old.logs ≡ None → result ≡ refused Refusal.ServerNotListed }
-        ensures large { IsSome (log_at origin.now self.old.logs) → MAX_BODY < length body.now
+    pub fn answer_body<K: Keys>(
+        &mut self,
+        alloc: Global,
+        origin: &str,
+        txn: &str,
+        body: &[u8],
+        keys: &K,
+    ) -> Reply
+        ensures answered { IsAnswered (K.checks keys.now) self.old.state
+            (request_of origin.now txn.now body.now) result self.new.state self.new.fresh }
+        ensures unlisted { log_at origin.now self.old.state.logs ≡ None
+            → result ≡ refused Refusal.ServerNotListed }
+        ensures large { IsSome (log_at origin.now self.old.state.logs) → MAX_BODY < length body.now
             → result ≡ refused Refusal.BodyTooLarge }
     {
-        match self.try_answer(alloc, origin, txn, body) {
-            Ok(body) => Reply::accepted(body),
-            Err(refusal) => Reply::refused(refusal),
+        match self.try_answer(alloc, origin, txn, body, keys) {
+            Ok(Accepted { reply, fresh }) => {
+                self.fresh = fresh;
+                Reply::accepted(reply)
+            }
+            Err(refusal) => {
+                self.fresh = Vec::new(alloc);
+                Reply::refused(refusal)
+            }
         }
+    }
+
+    /// Hands out, once, the checked events that the newest answer took, in order, for the rooms: none where it took nothing. It
+    /// takes no memory.
+    pub fn fresh(&mut self) -> Vec<Checked>
+        ensures handed { result.items ≡ self.old.fresh }
+        ensures once { self.new.fresh ≡ [] }
+        ensures stays { self.new.state ≡ self.old.state }
+    {
+        let alloc = *self.fresh.allocator();
+        std::mem::replace(&mut self.fresh, Vec::new(alloc))
     }
 
     /// The canonical texts of the PDUs taken from an origin, in order.
     pub fn taken(&self, origin: &str) -> &[Vec<u8>]
-        ensures { texts_of result.now ≡ taken_of self.now origin.now }
+        ensures { texts_of result.now ≡ taken_of self.now.state origin.now }
     {
         match self.place(origin) {
             Some(place) => self.logs[place].pdus(),
@@ -97,7 +139,7 @@ impl Inbox {
 
     /// The canonical texts of the EDUs taken from an origin, in order.
     pub fn taken_edus(&self, origin: &str) -> &[Vec<u8>]
-        ensures { texts_of result.now ≡ taken_edus_of self.now origin.now }
+        ensures { texts_of result.now ≡ taken_edus_of self.now.state origin.now }
     {
         match self.place(origin) {
             Some(place) => self.logs[place].edus(),
@@ -105,28 +147,31 @@ impl Inbox {
         }
     }
 
-    fn try_answer(
+    // Answers, and leaves the events for the rooms as they were.
+    fn try_answer<K: Keys>(
         &mut self,
         alloc: Global,
         origin: &str,
         txn: &str,
         body: &[u8],
-    ) -> Result<Vec<u8>, Refusal>
-        ensures tried { IsTried self.old (request_of origin.now txn.now body.now) result self.new }
-        ensures unlisted { log_at origin.now self.old.logs ≡ None → result ≡ Err Refusal.ServerNotListed }
-        ensures large { IsSome (log_at origin.now self.old.logs) → MAX_BODY < length body.now
+        keys: &K,
+    ) -> Result<Accepted, Refusal>
+        ensures tried { IsTried (K.checks keys.now) self.old.state
+            (request_of origin.now txn.now body.now) result self.new.state }
+        ensures unlisted { log_at origin.now self.old.state.logs ≡ None → result ≡ Err Refusal.ServerNotListed }
+        ensures large { IsSome (log_at origin.now self.old.state.logs) → MAX_BODY < length body.now
             → result ≡ Err Refusal.BodyTooLarge }
     {
         match self.place(origin) {
-            Some(place) => self.logs[place].answer(alloc, txn, body),
+            Some(place) => self.logs[place].answer(alloc, txn, body, &self.rooms, keys),
             None => Err(Refusal::ServerNotListed),
         }
     }
 
     // Where the log of an origin lies.
     fn place(&self, origin: &str) -> Option<usize>
-        ensures place { result ≡ position (is_of origin.now) self.now.logs }
-        ensures within { IfSome result (λ place. place < length self.now.logs) }
+        ensures place { result ≡ position (is_of origin.now) self.now.state.logs }
+        ensures within { IfSome result (λ place. place < length self.now.state.logs) }
     {
         self.logs.iter().position(|log| log.origin() == origin)
     }

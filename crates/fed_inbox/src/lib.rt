@@ -3,7 +3,9 @@
 //!
 //! - `inbox`: `Inbox`, which answers a request and keeps what it took
 //! - `log`: what was taken from one origin, and the replies kept for it
-//! - `outcome`: what taking a transaction comes to: the texts of its elements and its reply
+//! - `outcome`: what taking a transaction comes to: the texts of its elements, the events for the rooms and its reply
+//! - `received`, `verdict`: the verdicts on its events, each with its fault or handed on
+//! - `rooms`: the rooms that the server knows
 //! - `reply`: `Reply`, a status and a body
 //! - `laws`: what holds of all lists of requests
 //! - `refusal`: `Refusal`, the table of the error replies
@@ -13,10 +15,13 @@ mod inbox;
 mod laws;
 mod log;
 mod outcome;
+mod received;
 mod refusal;
 mod reply;
+mod rooms;
 #[cfg(test)]
 mod tests;
+mod verdict;
 
 pub use inbox::Inbox;
 pub use laws::{kept_replies_stay, origins_are_apart, repeats_take_nothing, taken_grows};

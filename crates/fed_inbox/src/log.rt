@@ -3,18 +3,28 @@ ghost use Rattle.std.specs.Prelude.{◌≡◌, ◌<◌, Err, length, string_byte
 ghost use Rattle.std.specs.FinMap as finite;
 ghost use Rattle.fed_inbox.specs.LogParts.{texts_of};
 ghost use Rattle.fed_inbox.specs.Inbox.{empty_log};
-ghost use Rattle.fed_inbox.specs.Answer.{with_taking, names_other, answer_with, IsStep, IsNewStep};
+ghost use Rattle.fed_inbox.specs.Answer.{with_taking, names_other};
+ghost use Rattle.fed_inbox.specs.AnswerParts.{IsStep, IsNewStep, taken_by};
 ghost use Rattle.fed_txn.specs.Reading.{body_of};
 ghost use Rattle.fed_txn.specs.Transaction.{transaction_of};
 ghost use Rattle.fed_inbox.specs.OutcomeParts.{taking};
 
 use crate::outcome::Outcome;
 use crate::refusal::Refusal;
+use crate::rooms::Rooms;
+use fed_event::{Checked, Keys};
 use fed_json::{Json, NoMemory};
 use fed_txn::{MAX_BODY, TransactionIn, read_body};
 use std::alloc::Global;
 use std::collections::BTreeMap;
 use std::marker::Model;
+
+/// The body of a 200, and the events that are handed on to the rooms.
+#[derive(Drop)]
+pub(crate) struct Accepted {
+    pub(crate) reply: Vec<u8>,
+    pub(crate) fresh: Vec<Checked>,
+}
 
 /// What was taken from one origin, in order, and the reply kept for each of its transactions.
 #[derive(Drop)]
@@ -78,15 +88,16 @@ impl Log {
         self.replies.get(txn)
     }
 
-    /// Answers a transaction of this origin with the body of a 200 or a refusal. An error that memory ran out leaves the log as
-    /// it was.
-    pub(crate) fn answer(
+    /// Answers a transaction of this origin. A refusal that memory ran out leaves the log as it was.
+    pub(crate) fn answer<K: Keys>(
         &mut self,
         alloc: Global,
         txn: &str,
         body: &[u8],
-    ) -> Result<Vec<u8>, Refusal>
-        ensures step { IsStep self.old txn.now (body_of body.now) (answer_with result) self.new }
+        rooms: &Rooms,
+        keys: &K,
+    ) -> Result<Accepted, Refusal>
+        ensures step { IsStep (K.checks keys.now) rooms.now self.old txn.now (body_of body.now) result self.new }
         ensures large { MAX_BODY < length body.now → result ≡ Err Refusal.BodyTooLarge }
     {
         let body = read_body(alloc, body)?;
@@ -94,34 +105,47 @@ impl Log {
             return Err(Refusal::OriginDiffers);
         }
         if let Some(kept) = self.reply(txn) {
-            return Ok(Vec::from_slice(alloc, kept)?);
+            return Ok(Accepted {
+                reply: Vec::from_slice(alloc, kept)?,
+                fresh: Vec::new(alloc),
+            });
         }
-        self.answer_new(alloc, txn, body)
+        self.answer_new(alloc, txn, body, rooms, keys)
     }
 
     // Answers a transaction for which no reply is kept.
-    fn answer_new(&mut self, alloc: Global, txn: &str, body: Json) -> Result<Vec<u8>, Refusal>
-        ensures { IsNewStep self.old txn.now (transaction_of body) (answer_with result) self.new }
+    fn answer_new<K: Keys>(
+        &mut self,
+        alloc: Global,
+        txn: &str,
+        body: Json,
+        rooms: &Rooms,
+        keys: &K,
+    ) -> Result<Accepted, Refusal>
+        ensures { IsNewStep (K.checks keys.now) rooms.now self.old txn.now (transaction_of body) result self.new }
     {
         let transaction = TransactionIn::of_json(alloc, body)?;
-        let outcome = Outcome::of(alloc, &transaction)?;
+        let outcome = Outcome::of(alloc, transaction, rooms, keys)?;
         Ok(self.take(alloc, txn, outcome)?)
     }
 
-    /// Takes what a transaction came to and keeps its reply; answers a copy of it. An error leaves the log as it was.
+    /// Takes what a transaction came to and keeps its reply; answers a copy of it, and the events for the rooms. An error leaves
+    /// the log as it was.
     pub(crate) fn take(
         &mut self,
         alloc: Global,
         txn: &str,
         outcome: Outcome,
-    ) -> Result<Vec<u8>, NoMemory>
+    ) -> Result<Accepted, NoMemory>
         ensures ok { OnOk result (self.new ≡ with_taking self.old txn.now (taking outcome)) }
-        ensures answer { IfOk result (λ reply. reply.items ≡ (taking outcome).reply) }
+        ensures accepted { IfOk result (λ accepted. taken_by accepted
+            ≡ ((taking outcome).reply, (taking outcome).fresh)) }
         ensures err { OnErr result (self.new ≡ self.old) }
     {
         let Outcome {
             mut pdus,
             mut edus,
+            fresh,
             reply,
         } = outcome;
         let answer = Vec::from_slice(alloc, &reply)?;
@@ -131,7 +155,10 @@ impl Log {
         drop(self.replies.insert(number, reply)?);
         self.pdus.append(&mut pdus).unwrap();
         self.edus.append(&mut edus).unwrap();
-        Ok(answer)
+        Ok(Accepted {
+            reply: answer,
+            fresh,
+        })
     }
 }
 

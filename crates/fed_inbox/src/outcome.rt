@@ -1,66 +1,61 @@
 // What taking a transaction comes to.
-ghost use Rattle.std.specs.Prelude.{◌≡◌, length, map, filter, IfOk, OnOk, IsSome};
-ghost use Rattle.serde_json.specs.Find.{as_object};
+ghost use Rattle.std.specs.Prelude.{◌≡◌, map, filter, IfOk};
 ghost use Rattle.fed_json.specs.CanonicalText.{canonical_text};
 ghost use Rattle.fed_txn.specs.Transaction.{parts};
 ghost use Rattle.fed_inbox.specs.LogParts.{texts_of};
 ghost use Rattle.fed_inbox.specs.OutcomeParts.{taking};
-ghost use Rattle.fed_inbox.specs.Taking.{taking_of, with_event, is_edu};
+ghost use Rattle.fed_inbox.specs.Taking.{taking_of, is_edu};
 
-use fed_event::{event_id, first_fault};
+use crate::received::Received;
+use crate::rooms::Rooms;
+use fed_event::{Checked, Keys};
 use fed_json::{Json, NoMemory, canonical};
-use fed_txn::{TransactionIn, Verdicts, write_reply};
+use fed_txn::{TransactionIn, write_reply};
 use std::alloc::Global;
 
-/// The canonical texts of what is taken, in order, and the text of the reply.
+/// The canonical texts of what is taken, in order, the events that are handed on to the rooms, and the text of the reply.
 #[derive(Drop)]
 pub(crate) struct Outcome {
     pub(crate) pdus: Vec<Vec<u8>>,
     pub(crate) edus: Vec<Vec<u8>>,
+    pub(crate) fresh: Vec<Checked>,
     pub(crate) reply: Vec<u8>,
 }
 
 impl Outcome {
-    /// What taking this transaction comes to: every element of `pdus` is taken, each object among them gets a verdict, and the
-    /// EDUs are taken.
-    pub(crate) fn of(alloc: Global, transaction: &TransactionIn) -> Result<Outcome, NoMemory>
-        ensures { IfOk result (λ o. taking o ≡ taking_of (parts transaction.now)) }
+    /// What taking this transaction comes to: every element of `pdus` is taken, each object among them gets a verdict, those
+    /// without a fault are handed on, and the EDUs are taken.
+    pub(crate) fn of<K: Keys>(
+        alloc: Global,
+        transaction: TransactionIn,
+        rooms: &Rooms,
+        keys: &K,
+    ) -> Result<Outcome, NoMemory>
+        ensures { IfOk result (λ o. taking o
+            ≡ taking_of (K.checks keys.now) rooms.now (parts transaction)) }
     {
-        let mut verdicts = Verdicts::new(alloc);
-        let mut pdus = Vec::with_capacity(alloc, transaction.pdus.len())?;
-        for pdu in &transaction.pdus {
-            let text = canonical(alloc, pdu)?;
-            if pdu.is_object() {
-                enter_verdict(alloc, &mut verdicts, pdu, text.len())?;
-            }
+        let TransactionIn {
+            pdus: elements,
+            edus,
+            ..
+        } = transaction;
+        let mut received = Received::new(alloc);
+        let mut pdus = Vec::with_capacity(alloc, elements.len())?;
+        for element in elements {
+            let text = canonical(alloc, &element)?;
+            received.enter(alloc, element, text.len(), rooms, keys)?;
             pdus.push(text)?;
         }
-        let edus = edu_texts(alloc, &transaction.edus)?;
+        let Received { verdicts, fresh } = received;
+        let edus = edu_texts(alloc, &edus)?;
         let reply = write_reply(alloc, &verdicts)?;
-        Ok(Outcome { pdus, edus, reply })
+        Ok(Outcome {
+            pdus,
+            edus,
+            fresh,
+            reply,
+        })
     }
-}
-
-// Enters the verdict about an event whose canonical text has `size` bytes. Of several events of one id the first decides.
-fn enter_verdict(
-    alloc: Global,
-    verdicts: &mut Verdicts,
-    event: &Json,
-    size: usize,
-) -> Result<(), NoMemory>
-    requires object { IsSome (as_object event.now) }
-    requires size { size ≡ length (canonical_text event.now) }
-    ensures { OnOk result (verdicts.new ≡ with_event verdicts.old event.now) }
-{
-    let id = event_id(alloc, event)?.into_string();
-    if verdicts.contains(&id) {
-        return Ok(());
-    }
-    let error = match first_fault(event, size) {
-        Some(fault) => Some(fault.verdict_text(alloc)?),
-        None => None,
-    };
-    verdicts.insert(id, error)
 }
 
 // The texts of the elements that are EDUs; others are dropped.

@@ -31,13 +31,13 @@ pub returns-in_err-write_reply : goal.returns-in_err-write_reply
 returns-in_err-write_reply g c =
     let took = line_taken _ _ _ _ (search rules) c.in_ok-read_line.ensures in
     let is = c.in-Some.ensures ∙ ap words_of c.deref.ensures.value in
-    write_fails _ _ _ _ _ _ _ c.loop-number.invariant c.read_line.new.line.items _ took _ is c.answer_body-reply.result c.answer_body-reply.new.self c.answer_body-reply.ensures.answered _ _ _ c.from_residual-in_err-write_reply.ensures.1 c.in_err-write_reply.ensures
+    write_fails _ _ _ _ _ _ _ c.loop-number.invariant c.read_line.new.line.items _ took _ is c.answer_body-reply.result c.answer_body-reply.new.self.state c.answer_body-reply.ensures.answered _ _ _ c.from_residual-in_err-write_reply.ensures.1 c.in_err-write_reply.ensures
 
 pub loop-number-preserved : goal.loop-number-preserved
 loop-number-preserved g c =
     let took = line_taken _ _ _ _ (search rules) c.in_ok-read_line.ensures in
     let is = c.in-Some.ensures ∙ ap words_of c.deref.ensures.value in
-    goes_on _ _ _ _ _ _ _ c.loop-number.invariant c.read_line.new.line.items _ took _ is c.answer_body-reply.result c.answer_body-reply.new.self c.answer_body-reply.ensures.answered _ c.in_ok-write_reply.ensures
+    goes_on _ _ _ _ _ _ _ c.loop-number.invariant c.read_line.new.line.items _ took _ is c.answer_body-reply.result c.answer_body-reply.new.self.state c.answer_body-reply.ensures.answered _ c.in_ok-write_reply.ensures
 
 pub returns : goal.returns
 returns g c = too_many _ _ _ _ _ _ _ c.loop-number.invariant

@@ -3,4 +3,4 @@ use Rattle.fed_app.proofs.lines.answer_lines.Given as goal
 
 abbrev pub invariant-loop-number : goal.invariant-loop-number
 invariant-loop-number g l =
-    Runs (g.B.Read.remaining l.fn.input) l.fn.inbox (g.W.Write.contents l.fn.writer) (g.W.Write.contents l.writer) l.inbox (g.B.Read.remaining l.input) l.number
+    Runs (g.B.Read.remaining l.fn.input) l.fn.inbox.state (g.W.Write.contents l.fn.writer) (g.W.Write.contents l.writer) l.inbox.state (g.B.Read.remaining l.input) l.number

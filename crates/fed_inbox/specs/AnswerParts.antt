@@ -1,0 +1,37 @@
+-- What a log and an inbox answer with, before it is a reply.
+use Rattle.std.specs.Prelude.{ℕ, List, [], Result, Ok, Err}
+use Rattle.serde_json.specs.Data.{Data}
+use Rattle.fed_event.specs.Signatures.{Checks}
+use Rattle.fed_event.specs.Checked.{CheckedEvent}
+use Rattle.fed_txn.specs.declared.fault.TxnFault.{TxnFault}
+use Rattle.fed_txn.specs.Transaction.{Transaction}
+use Rattle.fed_inbox.specs.declared.log.Accepted.{Accepted}
+use Rattle.fed_inbox.specs.declared.refusal.Refusal.{Refusal}
+use Rattle.fed_inbox.specs.Reply.{Answer, accepted, refused}
+use Rattle.fed_inbox.specs.Log.{LogState}
+use Rattle.fed_inbox.specs.Inbox.{InboxState}
+use Rattle.fed_inbox.specs.Answer.{Request, IsAnswered, Steps, step_body, step_new}
+
+-- the reply, and the events for the rooms
+abbrev pub taken_by : Accepted → List ℕ × List CheckedEvent
+taken_by a = (a.reply.items, a.fresh.items)
+
+-- the answer of a body, or of a refusal
+abbrev pub answer_with : Result Accepted Refusal → Answer
+answer_with (Ok a) = accepted a.reply.items
+answer_with (Err refusal) = refused refusal
+
+abbrev pub fresh_with : Result Accepted Refusal → List CheckedEvent
+fresh_with (Ok a) = a.fresh.items
+fresh_with (Err refusal) = []
+
+module _ (checks : Checks) where
+  abbrev pub IsTried : InboxState → Request → Result Accepted Refusal → InboxState → Type 0
+  IsTried old request result new = IsAnswered checks old request (answer_with result) new (fresh_with result)
+
+  module _ (rooms : List (List ℕ)) where
+    abbrev pub IsStep : LogState → List ℕ → Result Data TxnFault → Result Accepted Refusal → LogState → Type 0
+    IsStep old txn body result new = Steps old (step_body checks rooms old txn body) (answer_with result) new (fresh_with result)
+
+    abbrev pub IsNewStep : LogState → List ℕ → Result Transaction TxnFault → Result Accepted Refusal → LogState → Type 0
+    IsNewStep old txn transaction result new = Steps old (step_new checks rooms old txn transaction) (answer_with result) new (fresh_with result)

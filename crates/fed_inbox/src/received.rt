@@ -1,0 +1,63 @@
+// What the events of a transaction come to.
+ghost use Rattle.std.specs.Prelude.{◌≡◌, [], length, OnOk};
+ghost use Rattle.fed_json.specs.CanonicalText.{canonical_text};
+ghost use Rattle.fed_inbox.specs.ReceivedParts.{after_element, received};
+ghost use Rattle.std.specs.FinMap as finite;
+
+use crate::rooms::Rooms;
+use crate::verdict::{Fault, judged};
+use fed_event::{Checked, Keys, event_id};
+use fed_json::{Json, NoMemory};
+use fed_txn::Verdicts;
+use std::alloc::Global;
+
+/// The verdicts on the events so far, by their ids, and the events among them that are handed on to the rooms, in order.
+#[derive(Drop)]
+pub(crate) struct Received {
+    pub(crate) verdicts: Verdicts,
+    pub(crate) fresh: Vec<Checked>,
+}
+
+impl Received {
+    pub(crate) fn new(alloc: Global) -> Received
+        ensures { received result ≡ (finite.empty, []) }
+    {
+        Received {
+            verdicts: Verdicts::new(alloc),
+            fresh: Vec::new(alloc),
+        }
+    }
+
+    /// Enters an element of a transaction whose canonical text has `size` bytes: an object whose id has no verdict yet gets its
+    /// verdict, and is handed on where that is none.
+    pub(crate) fn enter<K: Keys>(
+        &mut self,
+        alloc: Global,
+        element: Json,
+        size: usize,
+        rooms: &Rooms,
+        keys: &K,
+    ) -> Result<(), NoMemory>
+        requires { size ≡ length (canonical_text element) }
+        ensures { OnOk result (received self.new
+            ≡ after_element (K.checks keys.now) rooms.now (received self.old) element) }
+    {
+        if !element.is_object() {
+            return Ok(());
+        }
+        let id = event_id(alloc, &element)?;
+        if self.verdicts.contains(id.as_str()) {
+            return Ok(());
+        }
+        let key = String::from_str(alloc, id.as_str())?;
+        match judged(alloc, element, size, id, rooms, keys) {
+            Ok(event) => {
+                self.verdicts.insert(key, None)?;
+                self.fresh.push(event)?;
+            }
+            Err(Fault::Memory) => return Err(NoMemory),
+            Err(fault) => self.verdicts.insert(key, Some(fault.verdict_text(alloc)?))?,
+        }
+        Ok(())
+    }
+}
