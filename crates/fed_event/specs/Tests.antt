@@ -52,7 +52,7 @@ all_tests = reading_tests ++ (shape_tests ++ (missing_tests ++ (kind_tests ++ (l
 
 -- those that a `Pdu` has passed: a part of them without a gap, from the first that is of a value
 abbrev pub passed_tests : List PduFault
-passed_tests = shape_tests ++ missing_tests
+passed_tests = shape_tests ++ (missing_tests ++ (kind_tests ++ (length_tests ++ count_tests)))
 
 -- ---- the tests
 

@@ -34,7 +34,9 @@ pub use field::Field;
 pub use hash::content_hash;
 pub use id::{EventId, event_id};
 pub use ids::{domain, is_user_id};
-pub use laws::{ids_of_redactions, redacted_once, unsigned_changes, what_redaction_keeps};
+pub use laws::{
+    ids_of_redactions, redacted_once, redaction_passes, unsigned_changes, what_redaction_keeps,
+};
 pub use pdu::{MAX_DEPTH, MAX_SIZE, Pdu, first_fault};
 pub use redaction::redact;
 pub use signed::signed_text;
