@@ -65,8 +65,7 @@ at_name-no_larger n f no_members h = ((λ later. omega arith), omega arith)
 at_name-no_larger n f (member k d ms) h =
     let rest = at_name-no_larger n f ms h.1 in
     let here : IsNoLarger (cond (bytes_eq k n) (f d) d) d = cond_both (bytes_eq k n) (f d) d (λ v. IsNoLarger v d) h.0 (λ _. same-size d) in
-    let value = cond (bytes_eq k n) (f d) d in
-    (
+    let value = cond (bytes_eq k n) (f d) d in (
       (λ later. omega (arith, here.0, rest.0 true, member-length later k value (at_name n f ms), member-length later k d ms)),
       omega (arith, here.1, rest.1),
     )
@@ -100,8 +99,7 @@ grows-none n f (member l e ms) rise h =
     let at : Ordering → Option Data = λ o. match_ordering o (get_member n ms) (Some e) (get_member n ms) in
     let here : l ≡ n → at order ≡ Some e = λ same. ap at (ap (slice_cmp nat_cmp n) same ∙ tied_itself nat_list_cmp_total n) in
     let absent : order ≡ Equal → get_member n ms ≡ None =
-    λ tied. subst (λ k. get_member k ms ≡ None) (sym (same_name n l (ap is_eq tied))) (absent-below l ms rise.0) in
-    (
+    λ tied. subst (λ k. get_member k ms ≡ None) (sym (same_name n l (ap is_eq tied))) (absent-below l ms rise.0) in (
       (λ is. h e (here ((bytes_eq-Decides l n).0 is))),
       grows-none n f ms rise.1 (λ d found. h d (found-later order (get_member n ms) e d absent found)),
     )
