@@ -1,6 +1,6 @@
 pub mod Selecting
 pub mod Redacting
-pub mod Plain
+pub mod KeyAmong
 pub mod Parts
 pub mod Building
 pub mod FirstFault

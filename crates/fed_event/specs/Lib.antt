@@ -1,5 +1,4 @@
 pub mod Names
-pub mod Plain
 pub mod Redaction
 pub mod EventId
 pub mod Field
