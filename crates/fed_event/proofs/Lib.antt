@@ -3,5 +3,6 @@ pub mod Redacting
 pub mod KeyAmong
 pub mod Parts
 pub mod Building
-pub mod FirstFault
 pub mod RedactionPasses
+pub mod Faults
+pub mod Reading

@@ -20,7 +20,7 @@ use Rattle.fed_event.specs.declared.fault.PduFault.TheVariants.{Memory, NotJson,
 use Rattle.fed_event.specs.Field.{field_name}
 use Rattle.fed_event.specs.Names.{is_one_of, select, at_name}
 use Rattle.fed_event.specs.Redaction.{event_keys, type_of, content_keys, kept_content, redacted_members, redacted}
-use Rattle.fed_event.specs.Tests.{part, is_object, has_kind, most, holds, fails, passed_tests, first_fault_of}
+use Rattle.fed_event.specs.Tests.{part, is_object, has_kind, most, holds, fails, all_tests, first_fault_of}
 use Rattle.fed_event.proofs.Building.{IsBelow, Rises, Rises-members_rise}
 use Rattle.fed_event.proofs.Parts.{members-select}
 use Rattle.fed_event.proofs.Redacting.{redacted-kept, redacted-content}
@@ -188,6 +188,6 @@ redacted-passes (number n) rise h = h
 redacted-passes (string s) rise h = h
 redacted-passes (array ds) rise h = h
 redacted-passes (object ms) rise h =
-    let kind = passed-at (fails (object ms)) passed_tests 14 (WrongKind Content) h (lit< tt) in
+    let kind = passed-at (fails (object ms)) all_tests 14 (WrongKind Content) h (lit< tt) in
     let small = redacted-no_larger (content_keys (type_of (object ms))) ms (Rises-members_rise ms rise) (λ d is. object-there (part Content (object ms)) d kind is) in
-    all-pass (fails (object ms)) (fails (redacted (object ms))) passed_tests (test-passes ms small) h
+    all-pass (fails (object ms)) (fails (redacted (object ms))) all_tests (test-passes ms small) h

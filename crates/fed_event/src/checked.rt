@@ -3,6 +3,7 @@ ghost use Rattle.std.specs.Prelude.{◌≡◌, IfOk};
 
 use crate::pdu::Pdu;
 use fed_json::NoMemory;
+use std::alloc::Global;
 use std::marker::Model;
 
 /// An event that has passed the checks on receipt that need no room (Server-Server API, "Checks performed on receipt of a PDU",
@@ -40,11 +41,11 @@ impl Checked {
     }
 
     /// An equal value.
-    pub fn copy(&self) -> Result<Checked, NoMemory>
+    pub fn copy(&self, alloc: Global) -> Result<Checked, NoMemory>
         ensures { IfOk result (λ c. c ≡ self.now) }
     {
         Ok(Checked {
-            event: self.event.copy()?,
+            event: self.event.copy(alloc)?,
             authorised: self.authorised,
         })
     }
