@@ -11,3 +11,4 @@ pub mod Fields
 pub mod ContentHash
 pub mod Signatures
 pub mod Checked
+pub mod Keys

@@ -6,6 +6,8 @@
 //! - `id`: `EventId`, the reference hash of an event as a text
 //! - `pdu`: `Pdu`, an event that has passed the tests
 //! - `checked`: `Checked`, an event that has passed the checks on receipt
+//! - `keys`: `Keys`, what signs and checks signatures, and two stand-ins for it
+//! - `signature`: the signatures of an event
 //! - `field`, `fault`: the fields of an event, and why a value is no event
 //! - `laws`: what holds of all redactions and ids
 //! - `kept`: the keys that redaction keeps
@@ -16,6 +18,7 @@ mod fault;
 mod field;
 mod id;
 mod kept;
+mod keys;
 mod laws;
 mod pdu;
 mod redaction;
@@ -27,6 +30,7 @@ pub use checked::Checked;
 pub use fault::PduFault;
 pub use field::Field;
 pub use id::{EventId, event_id};
+pub use keys::{Keys, StandIn, Trusting};
 pub use laws::{ids_of_redactions, redacted_once, unsigned_changes, what_redaction_keeps};
 pub use pdu::{MAX_DEPTH, MAX_SIZE, Pdu, first_fault};
 pub use redaction::redact;
