@@ -4,3 +4,4 @@ pub mod Plain
 pub mod Parts
 pub mod Building
 pub mod FirstFault
+pub mod DecodedSignatures

@@ -22,6 +22,7 @@ mod keys;
 mod laws;
 mod pdu;
 mod redaction;
+mod signature;
 mod signed;
 #[cfg(test)]
 mod tests;
@@ -34,4 +35,5 @@ pub use keys::{Keys, StandIn, Trusting};
 pub use laws::{ids_of_redactions, redacted_once, unsigned_changes, what_redaction_keeps};
 pub use pdu::{MAX_DEPTH, MAX_SIZE, Pdu, first_fault};
 pub use redaction::redact;
+pub use signature::{is_signed_by, signature_of};
 pub use signed::signed_text;
