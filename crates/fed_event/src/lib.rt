@@ -8,18 +8,23 @@
 //! - `checked`: `Checked`, an event that has passed the checks on receipt
 //! - `keys`: `Keys`, what signs and checks signatures, and two stand-ins for it
 //! - `signature`: the signatures of an event
+//! - `hash`: the content hash of an event
+//! - `ids`: the parts of identifiers
 //! - `field`, `fault`: the fields of an event, and why a value is no event
 //! - `laws`: what holds of all redactions and ids
-//! - `kept`: the keys that redaction keeps
+//! - `kept`, `names`: the keys that redaction keeps, and names as they are written
 #![tactic(auto)]
 
 mod checked;
 mod fault;
 mod field;
+mod hash;
 mod id;
+mod ids;
 mod kept;
 mod keys;
 mod laws;
+mod names;
 mod pdu;
 mod redaction;
 mod signature;
@@ -30,8 +35,10 @@ mod tests;
 pub use checked::Checked;
 pub use fault::PduFault;
 pub use field::Field;
+pub use hash::content_hash;
 pub use id::{EventId, event_id};
-pub use keys::{Keys, StandIn, Trusting};
+pub use ids::{domain, is_user_id};
+pub use keys::{Keys, StandIn, Trusting, stand_ins_agree};
 pub use laws::{ids_of_redactions, redacted_once, unsigned_changes, what_redaction_keeps};
 pub use pdu::{MAX_DEPTH, MAX_SIZE, Pdu, first_fault};
 pub use redaction::redact;
