@@ -1,9 +1,11 @@
 -- What decoding into 64 bytes answers is what the text decodes to, where that is 64 bytes.
-use Rattle.std.proofs.Common.{◌≡◌, ℕ, ◌*◌, ◌/◌, ◌<◌, List, ◌++◌, length, drop, Bool, true, false, cond, nat_eq, nat_lt, Option, Some, None, option_and_then, arith, refl, sym, ◌∙◌, ap, length-append}
+use Rattle.std.proofs.Common.{◌≡◌, ℕ, ◌*◌, ◌/◌, ◌<◌, List, ◌++◌, length, drop, Bool, true, false, cond, nat_eq, nat_lt, Option, Some, None, option_and_then, IfOk, OnOk, String, string_bytes, arith, refl, sym, ◌∙◌, ap, length-append}
 use Rattle.std.proofs.lemmas.Bool.Decides.{nat_tests}
 use Rattle.std.proofs.lemmas.List.{append-nil, drop_all}
 use Rattle.std.specs.Bool.{then_some}
 use Rattle.std.specs.Result.{result_ok}
+use Rattle.std.specs.declared.alloc.AllocError.{AllocError}
+use Rattle.std.specs.declared.alloc.Global.{Global}
 use Rattle.std.specs.declared.result.Result.{Result}
 use Rattle.std.specs.declared.result.Result.TheVariants.{Ok, Err}
 use Rattle.base64.specs.declared.decode.DecodeError.{DecodeError}
@@ -11,10 +13,10 @@ use Rattle.base64.specs.declared.decode.DecodeSliceError.{DecodeSliceError}
 use Rattle.base64.specs.declared.decode.DecodeSliceError.TheVariants.{OutputSliceTooSmall}
 use Rattle.base64.specs.declared.engine.general_purpose.GeneralPurpose.{GeneralPurpose}
 use Rattle.base64.specs.Decode.{or_else, or_error, bytes_fit, decode_outcome, groups_before_last, groups_bytes, suffix_bytes}
-use Rattle.base64.specs.GeneralPurpose.{decoded_of, decoded_bytes_of, decode_slice_of}
+use Rattle.base64.specs.GeneralPurpose.{encode_of, decode_of, decoded_of, decoded_bytes_of, decode_slice_of}
 use Rattle.base64.specs.Engines.{standard_no_pad}
 use Rattle.base64.proofs.Decoding.{length-groups_bytes}
-use Rattle.serde_json.specs.Data.{Data}
+use Rattle.serde_json.specs.Data.{Data, string}
 use Rattle.serde_json.specs.Find.{as_str}
 use Rattle.fed_event.specs.Signatures.{signature_in}
 
@@ -95,3 +97,14 @@ taken-written n old new bytes size room written = by (nat_eq n 64) refl
         let full : n ≡ 64 = grind (arith, nat_tests) in
         ap Some (written ∙ ap (λ rest. bytes ++ rest) (drop_all (length bytes) old (omega arith)) ∙ append-nil bytes)
     by false is = refl
+
+-- ---- the text of 64 bytes
+
+decoded-64 : (text bytes : List ℕ) → decode_of standard_no_pad text ≡ Ok bytes → length bytes ≡ 64 → signature_in (string text) ≡ Some bytes
+unfolding decoded_of
+decoded-64 text bytes decodes size = ap (λ r. option_and_then of_64 (result_ok r)) decodes ∙ ap (λ n. cond (nat_eq n 64) (Some bytes) None) size
+
+pub decoded-encoded : (r : Result (String Global) AllocError) (bytes : List ℕ) → length bytes ≡ 64 → IfOk r (λ text. string_bytes text ≡ encode_of standard_no_pad bytes)
+    → IfOk r (λ text. decode_of standard_no_pad (string_bytes text) ≡ Ok bytes) → OnOk r (signature_in (string (encode_of standard_no_pad bytes)) ≡ Some bytes)
+decoded-encoded (Ok text) bytes size written decodes = decoded-64 (encode_of standard_no_pad bytes) bytes (ap (decode_of standard_no_pad) (sym written) ∙ decodes) size
+decoded-encoded (Err e) bytes size written decodes = tt

@@ -5,3 +5,4 @@ pub mod Parts
 pub mod Building
 pub mod FirstFault
 pub mod DecodedSignatures
+pub mod SealedEvents

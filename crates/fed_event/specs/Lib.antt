@@ -12,3 +12,5 @@ pub mod ContentHash
 pub mod Signatures
 pub mod Checked
 pub mod Keys
+pub mod CheckVerdict
+pub mod Sealing

@@ -8,6 +8,7 @@
 //! - `checked`: `Checked`, an event that has passed the checks on receipt
 //! - `keys`: `Keys`, what signs and checks signatures, and two stand-ins for it
 //! - `signature`: the signatures of an event
+//! - `sealing`: events that the own server makes
 //! - `hash`: the content hash of an event
 //! - `ids`: the parts of identifiers
 //! - `field`, `fault`: the fields of an event, and why a value is no event
@@ -27,12 +28,13 @@ mod laws;
 mod names;
 mod pdu;
 mod redaction;
+mod sealing;
 mod signature;
 mod signed;
 #[cfg(test)]
 mod tests;
 
-pub use checked::Checked;
+pub use checked::{CheckFault, Checked, check_in};
 pub use fault::PduFault;
 pub use field::Field;
 pub use hash::content_hash;
@@ -42,5 +44,6 @@ pub use keys::{Keys, StandIn, Trusting, stand_ins_agree};
 pub use laws::{ids_of_redactions, redacted_once, unsigned_changes, what_redaction_keeps};
 pub use pdu::{MAX_DEPTH, MAX_SIZE, Pdu, first_fault};
 pub use redaction::redact;
+pub use sealing::seal;
 pub use signature::{is_signed_by, signature_of};
 pub use signed::signed_text;

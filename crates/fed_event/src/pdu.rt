@@ -131,3 +131,39 @@ fn missing_field(event: &Json) -> Option<Field>
     }
     None
 }
+
+// ---- stand-ins
+
+ghost use Rattle.fed_event.specs.Fields.{sender_of};
+ghost use Rattle.fed_event.specs.ContentHash.{hash_fits_of};
+ghost use Rattle.fed_event.specs.Redaction.{redacted};
+
+use crate::hash::hash_fits;
+use crate::redaction::redact;
+use std::alloc::AllocError;
+
+impl Pdu {
+    pub fn sender(&self) -> &str
+        ensures { result.now ≡ sender_of self.now }
+    {
+        match self.json.member("sender") {
+            Some(sender) => sender.text().unwrap_or(""),
+            None => "",
+        }
+    }
+
+    pub fn hash_fits(&self, alloc: Global) -> Result<bool, NoMemory>
+        ensures { IfOk result (λ fits. fits ≡ hash_fits_of self.now) }
+    {
+        hash_fits(alloc, &self.json)
+    }
+
+    pub fn redacted(&self, alloc: Global) -> Result<Pdu, NoMemory>
+        ensures { IfOk result (λ p. p ≡ redacted self.now) }
+    {
+        match Pdu::of_json(alloc, redact(alloc, &self.json)?) {
+            Ok(pdu) => Ok(pdu),
+            Err(_) => Err(AllocError),
+        }
+    }
+}
