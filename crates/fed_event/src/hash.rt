@@ -53,11 +53,7 @@ fn covered_text(alloc: Global, event: &Json) -> Result<Vec<u8>, NoMemory>
 }
 
 // Appends the object of the members that the hash covers.
-fn append_covered(
-    alloc: Global,
-    text: &mut Vec<u8>,
-    members: Members<'_>,
-) -> Result<(), NoMemory>
+fn append_covered(alloc: Global, text: &mut Vec<u8>, members: Members<'_>) -> Result<(), NoMemory>
     ensures { let covered = select (λ k. not (is_one_of uncovered_keys k)) (members_of (members_left members.entry)) in
         OnOk result (text.new.items ≡ text.old.items ++ canonical_text (object covered)) }
 {

@@ -33,6 +33,8 @@ mod signature;
 mod signed;
 #[cfg(test)]
 mod tests;
+#[cfg(test)]
+mod tests_keys;
 
 pub use checked::{CheckFault, Checked, check_in};
 pub use fault::PduFault;
