@@ -6,3 +6,5 @@ pub mod Building
 pub mod RedactionPasses
 pub mod Faults
 pub mod Reading
+pub mod DecodedSignatures
+pub mod SealedEvents

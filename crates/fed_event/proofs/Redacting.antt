@@ -1,11 +1,15 @@
 -- What redaction does to members, and what it leaves alone.
-use Rattle.std.proofs.Common.{◌≡◌, ◌≢◌, ℕ, List, Bool, true, false, ◌&&◌, not, None, option_map, option_and_then, unwrap_or, IsSome, codes, refl, sym, ◌∙◌, ap}
+use Rattle.std.proofs.Common.{◌≡◌, ◌≢◌, ℕ, List, ◌∷◌, Bool, true, false, ◌&&◌, not, None, option_map, option_and_then, unwrap_or, IsSome, codes, refl, sym, ◌∙◌, ap}
 use Rattle.std.proofs.Math.Bool.{and_self}
 use Rattle.serde_json.specs.Data.{Data, null, boolean, number, string, array, object, Members, no_members}
 use Rattle.serde_json.specs.Find.{get, as_str, as_object}
 use Rattle.fed_event.specs.Names.{is_one_of, select, at_name, leave_out}
 use Rattle.fed_event.specs.Redaction.{event_keys, type_of, content_keys, kept_content, redacted_members, redacted}
-use Rattle.fed_event.specs.EventId.{unsigned_keys, signed_part}
+use Rattle.base64.specs.Engines.{url_safe_no_pad}
+use Rattle.base64.specs.GeneralPurpose.{encode_of}
+use Rattle.sha2.specs.Sha256.{sha256}
+use Rattle.fed_json.specs.CanonicalText.{canonical_text}
+use Rattle.fed_event.specs.EventId.{unsigned_keys, signed_part, event_id_of}
 use Rattle.fed_event.specs.Laws.{AreUnsigned}
 use Rattle.fed_event.proofs.Selecting.{select-same, select-select, select-at_name, at_name-at_name, at_name-same, get_member-select, get_member-dropped, get_member-other, get_member-at_name}
 
@@ -131,3 +135,6 @@ signed_part-leave_out names (object ms) h =
     let keys = content_keys (type_of (object ms)) in
     ap (λ kind. object (select (λ k. not (is_one_of unsigned_keys k)) (redacted_members (content_keys kind) left))) (type-left_out names ms h)
     ∙ ap object (signed-covered keys left ∙ ap (at_name (codes "content") (kept_content keys)) (covered-left_out names ms h) ∙ sym (signed-covered keys ms))
+
+pub event_id-redacted : (d : Data) → event_id_of (redacted d) ≡ event_id_of d
+event_id-redacted d = ap (λ part. 36 ∷ encode_of url_safe_no_pad (sha256 (canonical_text part))) (signed_part-redacted d)

@@ -12,3 +12,6 @@ pub mod EventIds
 pub mod ContentHash
 pub mod Signatures
 pub mod Checked
+pub mod Keys
+pub mod CheckVerdict
+pub mod Sealing

@@ -1,10 +1,20 @@
 // Events that have passed the checks on receipt.
-ghost use Rattle.std.specs.Prelude.{◌≡◌, IfOk};
+ghost use Rattle.std.specs.Prelude.{◌≡◌, true, false, IfOk, OnOk, IsErrOf, string_bytes, option_map};
+ghost use Rattle.fed_event.specs.declared.checked.CheckFault.TheVariants.{Memory};
+ghost use Rattle.fed_event.specs.EventId.{signed_text_of};
+ghost use Rattle.fed_event.specs.Signatures.{is_signed};
+ghost use Rattle.fed_event.specs.Checked.{authorising_user_of, is_authorised as is_authorised_by, checked_of};
+ghost use Rattle.fed_event.specs.CheckVerdict.{check_verdict_of};
 
+use crate::ids::domain;
+use crate::keys::Keys;
 use crate::pdu::Pdu;
+use crate::signature::is_signed_by;
+use crate::signed::signed_text;
 use fed_json::NoMemory;
 use std::alloc::Global;
 use std::marker::Model;
+use thiserror::Error;
 
 /// An event that has passed the checks on receipt that need no room (Server-Server API, "Checks performed on receipt of a PDU",
 /// checks 1 to 3): the event itself, or its redaction where the content hash does not fit, and whether the server of
@@ -49,4 +59,80 @@ impl Checked {
             authorised: self.authorised,
         })
     }
+}
+
+/// Why an event is refused on receipt. Its text is the verdict that a transaction's reply gives.
+#[derive(Clone, Copy, Debug, PartialEq, Eq, Error)]
+pub enum CheckFault {
+    /// Memory ran out.
+    #[error("out of memory")]
+    Memory,
+    /// No key of the sender's server has signed the event.
+    #[error("bad signature")]
+    BadSignature,
+}
+
+impl CheckFault {
+    /// The text that is displayed.
+    pub fn verdict_text(self, alloc: Global) -> Result<String, NoMemory>
+        ensures { IfOk result (λ text. string_bytes text ≡ check_verdict_of self) }
+    {
+        match self {
+            CheckFault::Memory => String::from_str(alloc, "out of memory"),
+            CheckFault::BadSignature => String::from_str(alloc, "bad signature"),
+        }
+    }
+}
+
+impl From<NoMemory> for CheckFault {
+    ghost from_gives = { λ _ e. e ≡ Memory };
+
+    fn from(_error: NoMemory) -> CheckFault {
+        Self::Memory
+    }
+}
+
+/// Checks an event on receipt (Server-Server API, "Checks performed on receipt of a PDU", checks 2 and 3): some key of the sender's
+/// server has signed it, and what is kept is the event where its content hash fits, else its redaction. Whether the server of
+/// `join_authorised_via_users_server` has signed is read from the event that came.
+///
+/// # Errors
+///
+/// `BadSignature` where no key of the sender's server has signed the event. `Memory` where memory ran out.
+pub fn check_in<K: Keys>(alloc: Global, event: Pdu, keys: &K) -> Result<Checked, CheckFault>
+    ensures ok { IfOk result (λ checked. checked ≡ checked_of (K.checks keys.now) event) }
+    ensures signed { OnOk result (is_signed (K.checks keys.now) event ≡ true) }
+    ensures unsigned { IsErrOf result CheckFault.BadSignature → is_signed (K.checks keys.now) event ≡ false }
+{
+    let signed = signed_text(alloc, event.json())?;
+    let server = domain(event.sender());
+    if !is_signed_by(keys, server, event.json(), &signed) {
+        return Err(CheckFault::BadSignature);
+    }
+    let authorised = is_authorised(keys, &event, &signed);
+    let event = if event.hash_fits() {
+        event
+    } else {
+        event.redacted(alloc)?
+    };
+    Ok(Checked { event, authorised })
+}
+
+// Whether the server of the user that authorises a join has signed the event, whose signed text this is.
+fn is_authorised<K: Keys>(keys: &K, event: &Pdu, signed: &[u8]) -> bool
+    requires { signed.now ≡ signed_text_of event.now }
+    ensures { result ≡ is_authorised_by (K.checks keys.now) event.now }
+{
+    match authorising_user(event) {
+        Some(user) => is_signed_by(keys, domain(user), event.json(), signed),
+        None => false,
+    }
+}
+
+// The user that authorises a join, where there is one that is a text.
+fn authorising_user(event: &Pdu) -> Option<&str>
+    ensures { option_map (λ s. s.now) result ≡ authorising_user_of event.now }
+{
+    let content = event.json().member("content")?;
+    content.member("join_authorised_via_users_server")?.text()
 }
