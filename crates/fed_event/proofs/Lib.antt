@@ -3,6 +3,7 @@ pub mod Redacting
 pub mod Plain
 pub mod Parts
 pub mod Building
-pub mod FirstFault
 pub mod DecodedSignatures
 pub mod SealedEvents
+pub mod Faults
+pub mod Reading

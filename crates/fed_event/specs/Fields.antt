@@ -1,12 +1,23 @@
 -- What the fields of an event hold (Matrix, room version 10, "Event format"). A field that is not there, or of another kind, is
 -- read as empty; of an event that has passed its tests only `state_key` can be missing.
-use Rattle.std.specs.Prelude.{ℕ, ℤ, pos, List, [], Option, map, unwrap_or, option_and_then}
+use Rattle.std.specs.Prelude.{ℕ, ℤ, pos, List, [], Bool, true, false, Option, map, unwrap_or, option_and_then}
 use Rattle.serde_json.specs.Data.{Data, null}
 use Rattle.serde_json.specs.Find.{as_str}
 use Rattle.fed_json.specs.JsonRef.{as_whole, as_items}
 use Rattle.fed_event.specs.declared.field.Field.{Field}
-use Rattle.fed_event.specs.declared.field.Field.TheVariants.{AuthEvents, Content, Depth, Hashes, OriginServerTs, PrevEvents, RoomId, Sender, Signatures, StateKey, «Type»}
+use Rattle.fed_event.specs.declared.field.Field.TheVariants.{Event, AuthEvents, Content, Depth, Hashes, OriginServerTs, PrevEvents, RoomId, Sender, Signatures, StateKey, «Type»}
 use Rattle.fed_event.specs.Tests.{part}
+
+-- the fields that no event lacks, and those that hold ids
+abbrev pub is_needed : Field → Bool
+is_needed Event = false
+is_needed StateKey = false
+is_needed field = true
+
+abbrev pub has_ids : Field → Bool
+has_ids AuthEvents = true
+has_ids PrevEvents = true
+has_ids field = false
 
 abbrev pub text_in : Data → List ℕ
 text_in value = unwrap_or (as_str value) []

@@ -4,10 +4,12 @@ pub mod Redaction
 pub mod EventId
 pub mod Field
 pub mod Tests
+pub mod Reading
 pub mod Verdict
 pub mod Laws
 pub mod Ids
 pub mod Fields
+pub mod EventIds
 pub mod ContentHash
 pub mod Signatures
 pub mod Checked

@@ -1,7 +1,7 @@
 -- The tests that an event has to pass, in the order in which they are made (Matrix, Server-Server API, "Checks performed on receipt
 -- of a PDU", check 1; Client-Server API, "Size limits"; room version 10, "Event format"). Each goes by the fault of what fails it.
-use Rattle.std.specs.Prelude.{ℕ, List, [], ◌∷◌, ◌++◌, Bool, false, ◌&&◌, not, ◌==◌, nat_lt, Option, Some, is_some, is_none, map, length, find, slice_index, unwrap_or, option_map, option_and_then}
-use Rattle.std.specs.List.{list_any, list_all}
+use Rattle.std.specs.Prelude.{ℕ, List, [], ◌∷◌, ◌++◌, Bool, false, not, nat_lt, Option, Some, is_some, is_none, map, length, find, unwrap_or, option_map, option_and_then}
+use Rattle.std.specs.List.{list_all}
 use Rattle.serde_json.specs.Data.{Data, depth}
 use Rattle.serde_json.specs.Find.{as_str, as_object, get}
 use Rattle.fed_json.specs.CanonicalText.{canonical_text}
@@ -11,6 +11,7 @@ use Rattle.fed_event.specs.declared.field.Field.TheVariants.{Event, AuthEvents, 
 use Rattle.fed_event.specs.declared.fault.PduFault.{PduFault}
 use Rattle.fed_event.specs.declared.fault.PduFault.TheVariants.{Memory, NotJson, NotCanonical, Missing, WrongKind, TooLarge, TooLong, TooMany, TooDeep}
 use Rattle.fed_event.specs.Field.{field_name}
+use Rattle.fed_event.specs.Ids.{is_id_text}
 
 -- ---- the fields
 
@@ -28,9 +29,6 @@ all_fields = AuthEvents ∷ Content ∷ Depth ∷ Hashes ∷ OriginServerTs ∷ 
 
 -- ---- the order
 
-abbrev pub reading_tests : List PduFault
-reading_tests = NotJson ∷ NotCanonical ∷ []
-
 abbrev pub shape_tests : List PduFault
 shape_tests = TooDeep ∷ WrongKind Event ∷ TooLarge ∷ []
 
@@ -40,19 +38,22 @@ missing_tests = map Missing needed_fields
 abbrev pub kind_tests : List PduFault
 kind_tests = map WrongKind all_fields
 
+-- the fields whose texts are measured, and those whose ids are counted
+abbrev pub measured_fields : List Field
+measured_fields = RoomId ∷ Sender ∷ StateKey ∷ «Type» ∷ []
+
+abbrev pub counted_fields : List Field
+counted_fields = AuthEvents ∷ PrevEvents ∷ []
+
 abbrev pub length_tests : List PduFault
-length_tests = map TooLong (RoomId ∷ Sender ∷ StateKey ∷ «Type» ∷ [])
+length_tests = map TooLong measured_fields
 
 abbrev pub count_tests : List PduFault
-count_tests = map TooMany (AuthEvents ∷ PrevEvents ∷ [])
+count_tests = map TooMany counted_fields
 
--- every test, the first one first
+-- every test that a value can fail, the first one first; bytes have to be JSON and canonical before that
 abbrev pub all_tests : List PduFault
-all_tests = reading_tests ++ (shape_tests ++ (missing_tests ++ (kind_tests ++ (length_tests ++ count_tests))))
-
--- those that a `Pdu` has passed: a part of them without a gap, from the first that is of a value
-abbrev pub passed_tests : List PduFault
-passed_tests = shape_tests ++ missing_tests
+all_tests = shape_tests ++ (missing_tests ++ (kind_tests ++ (length_tests ++ count_tests)))
 
 -- ---- the tests
 
@@ -72,9 +73,9 @@ is_whole_number value = is_some (as_whole value)
 abbrev pub is_array_of_texts : Data → Bool
 is_array_of_texts value = holds (list_all is_text) (as_items value)
 
--- a text that begins with this character and has a colon, which is 58
+-- a text that begins with this character and has a colon
 abbrev pub is_id : ℕ → Data → Bool
-is_id sigil value = holds (λ s. slice_index s 0 == sigil && list_any (λ c. c == 58) s) (as_str value)
+is_id sigil value = holds (is_id_text sigil) (as_str value)
 
 -- 33 is `!`, and 64 is `@`
 abbrev pub has_kind : Field → Data → Bool
@@ -108,6 +109,6 @@ fails event (TooLong field) = holds (λ s. nat_lt 255 (length s)) (option_and_th
 fails event (TooMany field) = holds (λ ids. nat_lt (most field) (length ids)) (option_and_then as_items (part field event))
 fails event TooDeep = nat_lt 100 (depth event)
 
--- the first of the tests that a `Pdu` has passed which this value fails
+-- the fault of the first test that the value fails, and none of an event
 abbrev pub first_fault_of : Data → Option PduFault
-first_fault_of event = find (fails event) passed_tests
+first_fault_of event = find (fails event) all_tests

@@ -1,5 +1,8 @@
 // The ids of events.
-ghost use Rattle.std.specs.Prelude.{◌≡◌, Some, IfOk, string_bytes};
+ghost use Rattle.std.specs.Prelude.{◌≡◌, Some, IfOk, string_bytes, bytes_eq, refl};
+ghost use Rattle.std.specs.Cmp.{partial_equiv_from_equiv};
+ghost use Rattle.std.specs.Cmp.Lexicographic.{slice_cmp, nat_list_eq_equiv, nat_list_cmp_total, texts_po, texts_ties};
+ghost use Rattle.std.specs.Ordering.{nat_cmp};
 ghost use Rattle.fed_event.specs.EventId.{event_id_of};
 
 use crate::signed::signed_text;
@@ -7,10 +10,11 @@ use base64::engine::general_purpose::URL_SAFE_NO_PAD;
 use fed_json::{Json, NoMemory};
 use sha2::{Digest, Sha256};
 use std::alloc::Global;
+use std::cmp::Ordering;
 use std::fmt;
 use std::marker::Model;
 
-/// The id of an event (room version 4, "Event IDs"), as a text. Contracts see it as its bytes.
+/// The id of an event (room version 4, "Event IDs"), as a text. Ids are ordered as their bytes. Contracts see it as its bytes.
 #[derive(Drop)]
 pub struct EventId {
     text: String,
@@ -35,12 +39,58 @@ impl EventId {
         self.text.as_str()
     }
 
+    /// An equal id.
+    pub fn copy(&self, alloc: Global) -> Result<EventId, NoMemory>
+        ensures { IfOk result (λ id. id ≡ self.now) }
+    {
+        let text = String::from_str(alloc, self.as_str())?;
+        Ok(EventId { text })
+    }
+
     /// The text of the id, to keep.
     pub fn into_string(self) -> String
         ensures { string_bytes result ≡ self }
     {
         let EventId { text } = self;
         text
+    }
+}
+
+impl PartialEq for EventId {
+    ghost eq = { bytes_eq };
+
+    ghost laws = { partial_equiv_from_equiv nat_list_eq_equiv };
+
+    fn eq(&self, other: &EventId) -> bool {
+        self.as_str() == other.as_str()
+    }
+}
+
+impl Eq for EventId {
+    ghost laws = { nat_list_eq_equiv };
+}
+
+impl PartialOrd for EventId {
+    ghost partial_cmp = { λ x y. Some (slice_cmp nat_cmp x y) };
+
+    ghost laws = { texts_po };
+
+    fn partial_cmp(&self, other: &EventId) -> Option<Ordering> {
+        Some(self.cmp(other))
+    }
+}
+
+impl Ord for EventId {
+    ghost cmp = { slice_cmp nat_cmp };
+
+    ghost total = { nat_list_cmp_total };
+
+    ghost matches_partial_cmp = { λ x y. refl };
+
+    ghost matches_eq = { texts_ties };
+
+    fn cmp(&self, other: &EventId) -> Ordering {
+        self.as_str().cmp(other.as_str())
     }
 }
 

@@ -5,6 +5,9 @@
 //! - `signed`: the bytes of an event that are signed and hashed
 //! - `id`: `EventId`, the reference hash of an event as a text
 //! - `pdu`: `Pdu`, an event that has passed the tests
+//! - `fields`: what the fields of a `Pdu` hold
+//! - `event_ids`: `EventIds`, the ids of events in a field, one after another
+//! - `validity`: the tests
 //! - `checked`: `Checked`, an event that has passed the checks on receipt
 //! - `keys`: `Keys`, what signs and checks signatures, and two stand-ins for it
 //! - `signature`: the signatures of an event
@@ -17,8 +20,10 @@
 #![tactic(auto)]
 
 mod checked;
+mod event_ids;
 mod fault;
 mod field;
+mod fields;
 mod hash;
 mod id;
 mod ids;
@@ -35,8 +40,10 @@ mod signed;
 mod tests;
 #[cfg(test)]
 mod tests_keys;
+mod validity;
 
 pub use checked::{CheckFault, Checked, check_in};
+pub use event_ids::EventIds;
 pub use fault::PduFault;
 pub use field::Field;
 pub use hash::content_hash;
@@ -44,8 +51,9 @@ pub use id::{EventId, event_id};
 pub use ids::{domain, is_user_id};
 pub use keys::{Keys, StandIn, Trusting, stand_ins_agree};
 pub use laws::{ids_of_redactions, redacted_once, unsigned_changes, what_redaction_keeps};
-pub use pdu::{MAX_DEPTH, MAX_SIZE, Pdu, first_fault};
+pub use pdu::Pdu;
 pub use redaction::redact;
-pub use sealing::seal;
+pub use sealing::{is_sent_by, seal};
 pub use signature::{is_signed_by, signature_of};
 pub use signed::signed_text;
+pub use validity::{MAX_AUTH_EVENTS, MAX_DEPTH, MAX_PREV_EVENTS, MAX_SIZE, MAX_TEXT, first_fault};

@@ -1,50 +1,39 @@
 // Events that have passed the tests.
-ghost use Rattle.std.specs.Prelude.{◌≡◌, ◌≢◌, Some, None, length, find, is_none, IfOk, IfErr};
-ghost use Rattle.serde_json.specs.Find.{get};
+ghost use Rattle.std.specs.Prelude.{◌≡◌, ◌≢◌, Some, None, Ok, Err, length, IfOk, IfErr, IsOk, IsErr, IsSome, IsNone, IsOkUnless};
 ghost use Rattle.fed_json.specs.CanonicalText.{canonical_text};
 ghost use Rattle.fed_event.specs.declared.fault.PduFault.TheVariants.{Memory};
-ghost use Rattle.fed_event.specs.Field.{field_name};
-ghost use Rattle.fed_event.specs.Tests.{first_fault_of, needed_fields};
+ghost use Rattle.fed_event.specs.EventId.{event_id_of};
+ghost use Rattle.fed_event.specs.Reading.{event_of, read_of};
+ghost use Rattle.fed_event.specs.Tests.{first_fault_of};
 
 use crate::fault::PduFault;
-use crate::field::Field;
-use fed_json::{Json, NoMemory, canonical};
+use crate::id::{EventId, event_id};
+use crate::validity::first_fault;
+use fed_json::{Json, JsonFault, MAX_LEVELS, NoMemory, canonical, read_within};
 use std::alloc::Global;
 use std::marker::Model;
 
-/// The most levels that an event nests.
-pub const MAX_DEPTH: usize = 100;
-
-/// The most bytes of an event's canonical text, signatures and all.
-pub const MAX_SIZE: usize = 65_536;
-
-const NEEDED: [Field; 10] = [
-    Field::AuthEvents,
-    Field::Content,
-    Field::Depth,
-    Field::Hashes,
-    Field::OriginServerTs,
-    Field::PrevEvents,
-    Field::RoomId,
-    Field::Sender,
-    Field::Signatures,
-    Field::Type,
-];
-
-/// An event (room version 10, "Event format") that has passed these tests, in this order: it nests at most `MAX_DEPTH` levels, it
-/// is an object, its canonical text has at most `MAX_SIZE` bytes, and it has every field but perhaps `state_key`. What the fields
-/// hold is not tested.
+/// An event (room version 10, "Event format") that has passed these tests, in this order: it nests at most `MAX_DEPTH` levels; it
+/// is an object; its canonical text has at most `MAX_SIZE` bytes; it has every field but perhaps `state_key`; each field has a value
+/// of its kind; no text of `room_id`, `sender`, `state_key` and `type` has more than `MAX_TEXT` bytes; `auth_events` has at most
+/// `MAX_AUTH_EVENTS` ids and `prev_events` at most `MAX_PREV_EVENTS`.
+///
+/// The kinds: `auth_events` and `prev_events` are arrays of texts, `content`, `hashes` and `signatures` objects, `depth` and
+/// `origin_server_ts` whole numbers, and the others texts, of which `room_id` begins with `!`, `sender` with `@`, and both have a
+/// colon.
 ///
 /// Contracts see it as its JSON value.
 #[derive(Drop)]
 pub struct Pdu {
     json: Json,
+    id: EventId,
 }
 
 impl Model for Pdu {
     ghost use Rattle.std.specs.Prelude.{◌≡◌, None};
     ghost use Rattle.serde_json.specs.Data.{Data};
     ghost use Rattle.fed_json.specs.Code.{coded_data};
+    ghost use Rattle.fed_event.specs.EventId.{event_id_of};
     ghost use Rattle.fed_event.specs.Tests.{first_fault_of};
 
     ghost Value = { Data };
@@ -53,26 +42,70 @@ impl Model for Pdu {
 
     ghost view = { λ p. p.json };
 
-    ghost invariant = { λ p. first_fault_of p.json ≡ None };
+    ghost invariant = { λ p. (first_fault_of p.json ≡ None) × (p.id ≡ event_id_of p.json) };
 }
 
 impl Pdu {
+    /// The event that bytes are.
+    ///
+    /// # Errors
+    ///
+    /// The first of these: `NotJson` where the bytes are not UTF-8, or no JSON text of at most 127 levels; `NotCanonical` where a
+    /// number is not whole or out of range; and then those of `of_json`. `Memory` where memory ran out.
+    pub fn read(alloc: Global, bytes: &[u8]) -> Result<Pdu, PduFault>
+        ensures ok { IfOk result (λ p. read_of bytes.now ≡ Ok p) }
+        ensures fault { IfErr result (λ fault. fault ≢ Memory → read_of bytes.now ≡ Err fault) }
+        ensures only { IsOk (read_of bytes.now) → IsOkUnless result Memory }
+    {
+        match read_within(alloc, bytes, MAX_LEVELS) {
+            Ok(json) => Pdu::of_json(alloc, json),
+            Err(JsonFault::Memory) => Err(PduFault::Memory),
+            Err(JsonFault::NotJson) => Err(PduFault::NotJson),
+            Err(JsonFault::NotCanonicalValue) => Err(PduFault::NotCanonical),
+            Err(JsonFault::TooDeep) => unreachable!(),
+        }
+    }
+
     /// The event that a value is.
     ///
     /// # Errors
     ///
-    /// The fault of the first test that the value fails: `TooDeep`, `WrongKind(Event)`, `TooLarge`, or `Missing` of the first field
-    /// that is not there, in the order of `Field`. `Memory` where memory ran out.
+    /// The fault of the first test that the value fails: `TooDeep`, `WrongKind(Event)`, `TooLarge`, or the first of `Missing`, then
+    /// of `WrongKind`, then of `TooLong` and then of `TooMany`, each in the order of `Field`. `Memory` where memory ran out.
     pub fn of_json(alloc: Global, json: Json) -> Result<Pdu, PduFault>
         ensures ok { IfOk result (λ p. p ≡ json) }
         ensures passes { IfOk result (λ _. first_fault_of json ≡ None) }
         ensures fails { IfErr result (λ e. e ≢ Memory → first_fault_of json ≡ Some e) }
+        ensures only { IsNone (first_fault_of json) → IsOkUnless result Memory }
+        ensures refuses { IsSome (first_fault_of json) → IsErr result }
     {
         let size = canonical(alloc, &json)?.len();
+        let id = event_id(alloc, &json)?;
+        Pdu::with_id(json, size, id)
+    }
+
+    /// The event that a value is, whose canonical text has `size` bytes and whose id is `id`: for a caller that has both. It takes
+    /// no memory.
+    ///
+    /// # Errors
+    ///
+    /// Those of `of_json`, but for `Memory`.
+    pub fn with_id(json: Json, size: usize, id: EventId) -> Result<Pdu, PduFault>
+        requires size { size ≡ length (canonical_text json) }
+        requires id { id ≡ event_id_of json }
+        ensures { result ≡ event_of json }
+    {
         match first_fault(&json, size) {
             Some(fault) => Err(fault),
-            None => Ok(Pdu { json }),
+            None => Ok(Pdu { json, id }),
         }
+    }
+
+    /// The id.
+    pub fn id(&self) -> &EventId
+        ensures { result.now ≡ event_id_of self.now }
+    {
+        &self.id
     }
 
     /// The value.
@@ -83,58 +116,27 @@ impl Pdu {
         &self.json
     }
 
-    /// An equal event.
-    pub fn copy(&self) -> Result<Pdu, NoMemory>
-        ensures { IfOk result (λ p. p ≡ self.now) }
-    {
-        Ok(Pdu {
-            json: self.json.copy()?,
-        })
-    }
-
     /// The value, to keep.
     pub fn into_json(self) -> Json
         ensures value { result ≡ self }
         ensures passes { first_fault_of self ≡ None }
     {
-        let Pdu { json } = self;
+        let Pdu { json, id: _id } = self;
         json
     }
-}
 
-/// The first of a `Pdu`'s tests that a value fails, whose canonical text has `size` bytes.
-pub fn first_fault(event: &Json, size: usize) -> Option<PduFault>
-    requires { size ≡ length (canonical_text event.now) }
-    ensures { result ≡ first_fault_of event.now }
-{
-    if event.depth() > MAX_DEPTH {
-        return Some(PduFault::TooDeep);
+    /// An equal event.
+    pub fn copy(&self, alloc: Global) -> Result<Pdu, NoMemory>
+        ensures { IfOk result (λ p. p ≡ self.now) }
+    {
+        let json = self.json.copy()?;
+        let id = self.id.copy(alloc)?;
+        Ok(Pdu { json, id })
     }
-    if !event.is_object() {
-        return Some(PduFault::WrongKind(Field::Event));
-    }
-    if size > MAX_SIZE {
-        return Some(PduFault::TooLarge);
-    }
-    let field = missing_field(event)?;
-    Some(PduFault::Missing(field))
-}
-
-// The first field that an event may not lack and that is not there.
-fn missing_field(event: &Json) -> Option<Field>
-    ensures { result ≡ find (λ field. is_none (get (field_name field) event.now)) needed_fields }
-{
-    for field in NEEDED {
-        if event.member(field.name()).is_none() {
-            return Some(field);
-        }
-    }
-    None
 }
 
 // ---- stand-ins
 
-ghost use Rattle.fed_event.specs.Fields.{sender_of};
 ghost use Rattle.fed_event.specs.ContentHash.{hash_fits_of};
 ghost use Rattle.fed_event.specs.Redaction.{redacted};
 
@@ -143,15 +145,6 @@ use crate::redaction::redact;
 use std::alloc::AllocError;
 
 impl Pdu {
-    pub fn sender(&self) -> &str
-        ensures { result.now ≡ sender_of self.now }
-    {
-        match self.json.member("sender") {
-            Some(sender) => sender.text().unwrap_or(""),
-            None => "",
-        }
-    }
-
     pub fn hash_fits(&self, alloc: Global) -> Result<bool, NoMemory>
         ensures { IfOk result (λ fits. fits ≡ hash_fits_of self.now) }
     {
