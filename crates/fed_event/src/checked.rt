@@ -1,10 +1,11 @@
 // Events that have passed the checks on receipt.
 ghost use Rattle.std.specs.Prelude.{◌≡◌, true, false, IfOk, OnOk, IsErrOf, string_bytes, option_map, if◌then◌else◌};
+ghost use Rattle.serde_json.specs.Data.{Data};
 ghost use Rattle.fed_event.specs.declared.checked.CheckFault.TheVariants.{Memory};
 ghost use Rattle.fed_event.specs.Redaction.{redacted};
-ghost use Rattle.fed_event.specs.EventId.{signed_text_of};
+ghost use Rattle.fed_event.specs.EventId.{signed_text_of, event_id_of};
 ghost use Rattle.fed_event.specs.ContentHash.{hash_fits_of};
-ghost use Rattle.fed_event.specs.Signatures.{is_signed as is_signed_by_sender};
+ghost use Rattle.fed_event.specs.Signatures.{Checks, is_signed as is_signed_by_sender};
 ghost use Rattle.fed_event.specs.Checked.{authorising_user_of, is_authorised as is_authorised_by, checked_of};
 ghost use Rattle.fed_event.specs.CheckVerdict.{check_verdict_of};
 
@@ -154,3 +155,8 @@ fn authorising_user(event: &Pdu) -> Option<&str>
         .member("join_authorised_via_users_server")?
         .text()
 }
+
+/// An event that has passed the checks on receipt has the id of the event that came, redacted or not.
+pub fn ids_of_checked()
+    ensures { (checks : Checks) (event : Data) → event_id_of (checked_of checks event).event ≡ event_id_of event }
+{}

@@ -4,7 +4,7 @@ ghost use Rattle.serde_json.specs.Data.{Data};
 ghost use Rattle.serde_json.specs.Find.{as_object, get};
 ghost use Rattle.fed_event.specs.Names.{is_one_of, leave_out};
 ghost use Rattle.fed_event.specs.Redaction.{redacted, event_keys, type_of, content_keys, kept_content};
-ghost use Rattle.fed_event.specs.EventId.{signed_part, event_id_of};
+ghost use Rattle.fed_event.specs.EventId.{unsigned_keys, signed_part, event_id_of};
 ghost use Rattle.fed_event.specs.Laws.{AreUnsigned};
 
 /// Redacting twice is redacting once.
@@ -37,4 +37,11 @@ pub fn unsigned_changes()
         → event_id_of d ≡ event_id_of e }
     ensures unsigned { (d : Data) → event_id_of (leave_out (codes "unsigned" ∷ []) d) ≡ event_id_of d }
     ensures signatures { (d : Data) → event_id_of (leave_out (codes "signatures" ∷ []) d) ≡ event_id_of d }
+{}
+
+/// What is signed of an event decides its id, and all that redaction leaves of it but what is under `signatures` and `unsigned`.
+pub fn what_is_signed()
+    ensures id { (d e : Data) → signed_part d ≡ signed_part e → event_id_of d ≡ event_id_of e }
+    ensures left { (d e : Data) (k : List ℕ) → signed_part d ≡ signed_part e → is_one_of unsigned_keys k ≡ false
+        → get k (redacted d) ≡ get k (redacted e) }
 {}

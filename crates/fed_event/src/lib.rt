@@ -42,7 +42,7 @@ mod tests;
 mod tests_keys;
 mod validity;
 
-pub use checked::{CheckFault, Checked, check_in};
+pub use checked::{CheckFault, Checked, check_in, ids_of_checked};
 pub use event_ids::EventIds;
 pub use fault::PduFault;
 pub use field::Field;
@@ -50,7 +50,9 @@ pub use hash::content_hash;
 pub use id::{EventId, event_id};
 pub use ids::{domain, is_user_id};
 pub use keys::{Keys, StandIn, Trusting, stand_ins_agree};
-pub use laws::{ids_of_redactions, redacted_once, unsigned_changes, what_redaction_keeps};
+pub use laws::{
+    ids_of_redactions, redacted_once, unsigned_changes, what_is_signed, what_redaction_keeps,
+};
 pub use pdu::Pdu;
 pub use redaction::redact;
 pub use sealing::{is_sent_by, seal};
