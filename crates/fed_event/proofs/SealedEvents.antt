@@ -1,5 +1,5 @@
 -- An event that is hashed and signed has its hash and its signature.
-use Rattle.std.proofs.Common.{◌≡◌, ◌≢◌, ℕ, List, [], ◌∷◌, Bool, true, false, ◌&&◌, ◌||◌, not, cond, Ordering, Less, Equal, Greater, nat_cmp, is_eq, Option, Some, None, option_and_then, unwrap_or, IsSome, IfSome, bytes_eq, codes, refl, sym, ◌∙◌, ap, true≢false}
+use Rattle.std.proofs.Common.{◌≡◌, ◌≢◌, ℕ, List, [], ◌∷◌, Bool, true, false, ◌&&◌, ◌||◌, not, cond, Ordering, Less, Equal, Greater, nat_cmp, is_eq, Option, Some, None, option_and_then, unwrap_or, IsSome, IfSome, bytes_eq, codes, refl, sym, ◌∙◌, ap, subst, true≢false}
 use Rattle.std.proofs.Math.Bool.{and-false}
 use Rattle.std.proofs.lemmas.Bool.{cond-false, cond-true}
 use Rattle.std.proofs.lemmas.Slice.Eq.{bytes_eq-Decides}
@@ -17,15 +17,17 @@ use Rattle.fed_json.specs.JsonRef.{as_members}
 use Rattle.fed_json.specs.Editing.{with_member}
 use Rattle.fed_json.specs.CanonicalText.{canonical_text}
 use Rattle.fed_event.specs.Names.{is_one_of, select, leave_out}
-use Rattle.fed_event.specs.Tests.{holds}
-use Rattle.fed_event.specs.Ids.{domain_of}
+use Rattle.fed_event.specs.declared.field.Field.TheVariants.{Sender}
+use Rattle.fed_event.specs.Tests.{holds, has_kind, first_fault_of}
+use Rattle.fed_event.specs.Ids.{domain_of, is_id_text}
 use Rattle.fed_event.specs.Redaction.{event_keys, redacted}
 use Rattle.fed_event.specs.EventId.{unsigned_keys, signed_part, signed_text_of}
 use Rattle.fed_event.specs.ContentHash.{uncovered_keys, content_hash_of, given_hash_of, hash_fits_of}
 use Rattle.fed_event.specs.Signatures.{Checks, signature_in, signatures_by, is_signed_by, is_signed}
 use Rattle.fed_event.specs.Checked.{CheckedEvent, checked_of}
-use Rattle.fed_event.specs.Sealing.{holding, hashed_of, signature_text_of, sealed_of}
+use Rattle.fed_event.specs.Sealing.{sender_text, IsSentBy, holding, hashed_of, signature_text_of, sealed_of}
 use Rattle.fed_event.specs.Laws.{AreUnsigned}
+use Rattle.fed_event.proofs.Faults.{kind_passed}
 use Rattle.fed_event.proofs.Redacting.{signed_part-leave_out}
 
 -- ---- a member that a test drops
@@ -96,14 +98,33 @@ signatures_by-put server key text ms =
     ap (λ o. unwrap_or (option_and_then as_members (get server (unwrap_or o null))) []) (get_member-put (codes "signatures") (holding server by_key) ms)
     ∙ ap (λ o. unwrap_or (option_and_then as_members o) []) (get-holding server by_key)
 
--- the sender, where there is one that is a text
-abbrev pub sender_text : Data → Option (List ℕ)
-sender_text event = option_and_then as_str (get (codes "sender") event)
-
 sender-put : (v w : Data) (ms : Members) → get_member (codes "sender") (put (codes "signatures") v (put (codes "hashes") w ms)) ≡ get_member (codes "sender") ms
 sender-put v w ms =
     get_member-put_other (codes "sender") (codes "signatures") v (put (codes "hashes") w ms) sender_apart
     ∙ get_member-put_other (codes "sender") (codes "hashes") w ms sender_hashes_apart
+
+-- ---- the sender
+
+sender_text-sealed : (server key : List ℕ) (sign : List ℕ → List ℕ) (parts : Data) → sender_text (sealed_of server key sign parts) ≡ sender_text parts
+sender_text-sealed server key sign null = refl
+sender_text-sealed server key sign (boolean b) = refl
+sender_text-sealed server key sign (number n) = refl
+sender_text-sealed server key sign (string s) = refl
+sender_text-sealed server key sign (array ds) = refl
+sender_text-sealed server key sign (object ms) = ap (option_and_then as_str) (sender-put _ _ ms)
+
+a_text : (o : Option (List ℕ)) → holds (is_id_text 64) o ≡ true → IsSome o
+a_text None h = absurd (cc)
+a_text (Some text) h = refl
+
+sent : (o : Option Data) → has_kind Sender (unwrap_or o null) ≡ true → IsSome (option_and_then as_str o)
+sent None h = absurd (cc)
+sent (Some value) h = a_text (as_str value) h
+
+pub sender_text-passed : (server key : List ℕ) (sign : List ℕ → List ℕ) (parts : Data) → first_fault_of (sealed_of server key sign parts) ≡ None → IsSome (sender_text parts)
+sender_text-passed server key sign parts passes =
+    let event = sealed_of server key sign parts in
+    subst IsSome (sender_text-sealed server key sign parts) (sent (get (codes "sender") event) (kind_passed event Sender passes refl))
 
 -- ---- the event as a whole
 
@@ -133,7 +154,7 @@ signed-one checks server key signature value event there is good =
     ap (λ entries. list_any (λ entry. holds (checks server entry.0 (signed_text_of event)) (signature_in entry.1)) entries) there
     ∙ ap (λ o. holds (checks server key (signed_text_of event)) o || false) is ∙ ap (λ b. b || false) good
 
-pub is_signed-sealed : (checks : Checks) (server key : List ℕ) (sign : List ℕ → List ℕ) (parts : Data) → IsSome (sender_text parts) → IfSome (sender_text parts) (λ sender. domain_of sender ≡ server)
+pub is_signed-sealed : (checks : Checks) (server key : List ℕ) (sign : List ℕ → List ℕ) (parts : Data) → IsSome (sender_text parts) → IsSentBy server parts
     → signature_in (string (signature_text_of sign (hashed_of parts))) ≡ Some (sign (signed_text_of (hashed_of parts)))
     → ((message : List ℕ) → checks server key message (sign message) ≡ true)
     → is_signed checks (sealed_of server key sign parts) ≡ true

@@ -1,12 +1,22 @@
 -- An event that a server makes: with its content hash, then with the server's signature (Matrix, Server-Server API, "Signing Events",
 -- "Adding hashes and signatures to outgoing events").
-use Rattle.std.specs.Prelude.{ℕ, List, codes}
+use Rattle.std.specs.Prelude.{◌≡◌, ℕ, List, Option, IfSome, option_and_then, codes}
 use Rattle.base64.specs.Engines.{standard_no_pad}
 use Rattle.base64.specs.GeneralPurpose.{encode_of}
 use Rattle.serde_json.specs.Data.{Data, string, object, no_members, member}
+use Rattle.serde_json.specs.Find.{as_str, get}
 use Rattle.fed_json.specs.Editing.{with_member}
+use Rattle.fed_event.specs.Ids.{domain_of}
 use Rattle.fed_event.specs.ContentHash.{content_hash_of}
 use Rattle.fed_event.specs.EventId.{signed_text_of}
+
+-- the sender, where there is one that is a text
+abbrev pub sender_text : Data → Option (List ℕ)
+sender_text event = option_and_then as_str (get (codes "sender") event)
+
+-- that sender, where there is one, is a user of this server
+abbrev pub IsSentBy : List ℕ → Data → Type 0
+IsSentBy server event = IfSome (sender_text event) (λ sender. domain_of sender ≡ server)
 
 -- an object with this value under the name, and nothing else
 abbrev pub holding : List ℕ → Data → Data

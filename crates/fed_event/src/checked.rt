@@ -1,8 +1,11 @@
 // Events that have passed the checks on receipt.
-ghost use Rattle.std.specs.Prelude.{◌≡◌, true, false, IfOk, OnOk, IsErrOf, string_bytes, option_map};
+ghost use Rattle.std.specs.Prelude.{◌≡◌, true, false, IfOk, OnOk, IsErrOf, string_bytes, option_map, if◌then◌else◌};
+ghost use Rattle.serde_json.specs.Data.{Data};
 ghost use Rattle.fed_event.specs.declared.checked.CheckFault.TheVariants.{Memory};
-ghost use Rattle.fed_event.specs.EventId.{signed_text_of};
-ghost use Rattle.fed_event.specs.Signatures.{is_signed};
+ghost use Rattle.fed_event.specs.Redaction.{redacted};
+ghost use Rattle.fed_event.specs.EventId.{signed_text_of, event_id_of};
+ghost use Rattle.fed_event.specs.ContentHash.{hash_fits_of};
+ghost use Rattle.fed_event.specs.Signatures.{Checks, is_signed as is_signed_by_sender};
 ghost use Rattle.fed_event.specs.Checked.{authorising_user_of, is_authorised as is_authorised_by, checked_of};
 ghost use Rattle.fed_event.specs.CheckVerdict.{check_verdict_of};
 
@@ -101,21 +104,35 @@ impl From<NoMemory> for CheckFault {
 /// `BadSignature` where no key of the sender's server has signed the event. `Memory` where memory ran out.
 pub fn check_in<K: Keys>(alloc: Global, event: Pdu, keys: &K) -> Result<Checked, CheckFault>
     ensures ok { IfOk result (λ checked. checked ≡ checked_of (K.checks keys.now) event) }
-    ensures signed { OnOk result (is_signed (K.checks keys.now) event ≡ true) }
-    ensures unsigned { IsErrOf result CheckFault.BadSignature → is_signed (K.checks keys.now) event ≡ false }
+    ensures signed { OnOk result (is_signed_by_sender (K.checks keys.now) event ≡ true) }
+    ensures unsigned { IsErrOf result CheckFault.BadSignature → is_signed_by_sender (K.checks keys.now) event ≡ false }
 {
     let signed = signed_text(alloc, event.json())?;
-    let server = domain(event.sender());
-    if !is_signed_by(keys, server, event.json(), &signed) {
+    if !is_signed(keys, &event, &signed) {
         return Err(CheckFault::BadSignature);
     }
     let authorised = is_authorised(keys, &event, &signed);
-    let event = if event.hash_fits() {
-        event
-    } else {
-        event.redacted(alloc)?
-    };
+    let event = kept(alloc, event)?;
     Ok(Checked { event, authorised })
+}
+
+// The event where its content hash fits, else its redaction.
+fn kept(alloc: Global, event: Pdu) -> Result<Pdu, NoMemory>
+    ensures { IfOk result (λ kept. kept ≡ (if hash_fits_of event then event else redacted event)) }
+{
+    if event.hash_fits() {
+        Ok(event)
+    } else {
+        event.redacted(alloc)
+    }
+}
+
+// Whether the server of the sender has signed the event, whose signed text this is.
+fn is_signed<K: Keys>(keys: &K, event: &Pdu, signed: &[u8]) -> bool
+    requires { signed.now ≡ signed_text_of event.now }
+    ensures { result ≡ is_signed_by_sender (K.checks keys.now) event.now }
+{
+    is_signed_by(keys, domain(event.sender()), event.json(), signed)
 }
 
 // Whether the server of the user that authorises a join has signed the event, whose signed text this is.
@@ -133,6 +150,13 @@ fn is_authorised<K: Keys>(keys: &K, event: &Pdu, signed: &[u8]) -> bool
 fn authorising_user(event: &Pdu) -> Option<&str>
     ensures { option_map (λ s. s.now) result ≡ authorising_user_of event.now }
 {
-    let content = event.json().member("content")?;
-    content.member("join_authorised_via_users_server")?.text()
+    event
+        .content()
+        .member("join_authorised_via_users_server")?
+        .text()
 }
+
+/// An event that has passed the checks on receipt has the id of the event that came, redacted or not.
+pub fn ids_of_checked()
+    ensures { (checks : Checks) (event : Data) → event_id_of (checked_of checks event).event ≡ event_id_of event }
+{}

@@ -44,7 +44,7 @@ mod tests_hash;
 mod tests_keys;
 mod validity;
 
-pub use checked::{CheckFault, Checked, check_in};
+pub use checked::{CheckFault, Checked, check_in, ids_of_checked};
 pub use event_ids::EventIds;
 pub use fault::PduFault;
 pub use field::Field;
@@ -53,11 +53,12 @@ pub use id::{EventId, event_id};
 pub use ids::{domain, is_user_id};
 pub use keys::{Keys, StandIn, Trusting, stand_ins_agree};
 pub use laws::{
-    ids_of_redactions, redacted_once, redaction_passes, unsigned_changes, what_redaction_keeps,
+    ids_of_redactions, redacted_once, redaction_passes, unsigned_changes, what_is_signed,
+    what_redaction_keeps,
 };
 pub use pdu::Pdu;
 pub use redaction::redact;
-pub use sealing::seal;
+pub use sealing::{is_sent_by, seal};
 pub use signature::{is_signed_by, signature_of};
 pub use signed::signed_text;
 pub use validity::{MAX_AUTH_EVENTS, MAX_DEPTH, MAX_PREV_EVENTS, MAX_SIZE, MAX_TEXT, first_fault};

@@ -1,26 +1,42 @@
 // Events that the own server makes.
-ghost use Rattle.std.specs.Prelude.{◌≡◌, ◌≢◌, ◌<◌, true, Some, None, codes, IfSome, IfOk, IfErr, OnOk, string_bytes, option_and_then, IsSome};
+ghost use Rattle.std.specs.Prelude.{◌≡◌, ◌≢◌, ◌<◌, ◌↔◌, true, Some, None, IsTrue, IfOk, IfErr, OnOk, string_bytes, option_map};
 ghost use Rattle.serde_json.specs.Data.{depth, string};
 ghost use Rattle.serde_json.specs.Read.{max_depth};
-ghost use Rattle.serde_json.specs.Find.{as_str, get};
 ghost use Rattle.fed_event.specs.declared.fault.PduFault.TheVariants.{Memory};
 ghost use Rattle.fed_event.specs.EventId.{signed_text_of};
-ghost use Rattle.fed_event.specs.Ids.{domain_of};
 ghost use Rattle.fed_event.specs.ContentHash.{hash_fits_of};
 ghost use Rattle.fed_event.specs.Signatures.{signature_in, is_signed};
 ghost use Rattle.fed_event.specs.Checked.{checked_of};
 ghost use Rattle.fed_event.specs.Tests.{first_fault_of};
-ghost use Rattle.fed_event.specs.Sealing.{holding as object_holding, hashed_of, signature_text_of, sealed_of};
+ghost use Rattle.fed_event.specs.Sealing.{sender_text, IsSentBy, holding as object_holding, hashed_of, signature_text_of, sealed_of};
 
 use crate::checked::{CheckFault, Checked, check_in};
 use crate::fault::PduFault;
 use crate::hash::content_hash;
+use crate::ids::domain;
 use crate::keys::Keys;
 use crate::pdu::Pdu;
 use crate::signed::signed_text;
 use base64::engine::general_purpose::STANDARD_NO_PAD;
 use fed_json::{Json, NoMemory};
 use std::alloc::Global;
+
+/// Whether the sender of an event, where there is one that is a text, is a user of this server.
+pub fn is_sent_by(server: &str, event: &Json) -> bool
+    ensures { IsTrue result ↔ IsSentBy server.now event.now }
+{
+    match sender(event) {
+        Some(sender) => domain(sender) == server,
+        None => true,
+    }
+}
+
+// The sender, where there is one that is a text.
+fn sender(event: &Json) -> Option<&str>
+    ensures { option_map (λ s. s.now) result ≡ sender_text event.now }
+{
+    event.member("sender")?.text()
+}
 
 /// The event of these parts that the own server sends (Server-Server API, "Adding hashes and signatures to outgoing events"): with its
 /// content hash at `hashes.sha256`, and then the own signature at `signatures`, under the own name and that of the own key. What
@@ -30,8 +46,7 @@ use std::alloc::Global;
 ///
 /// Those of `Pdu::of_json` on the event with its hash and signature. Where `parts` is no object, it is left as it is.
 pub fn seal<K: Keys>(alloc: Global, parts: Json, keys: &K) -> Result<Checked, PduFault>
-    requires own { IfSome (option_and_then as_str (get (codes "sender") parts)) (λ sender. domain_of sender ≡ K.own_name keys.now) }
-    requires text { IsSome (option_and_then as_str (get (codes "sender") parts)) }
+    requires { IsSentBy (K.own_name keys.now) parts }
     ensures event { let sealed = sealed_of (K.own_name keys.now) (K.own_key keys.now) (K.own_signature keys.now) parts in
         IfOk result (λ c. c.event ≡ sealed) }
     ensures fits { IfOk result (λ c. hash_fits_of c.event ≡ true) }
