@@ -18,11 +18,11 @@ use Rattle.fed_event.proofs.Parts.{members_of-pairs_of}
 
 -- ---- keys in the order of their bytes
 
-abbrev comes_first : List ℕ → List ℕ → Type 0
+abbrev pub comes_first : List ℕ → List ℕ → Type 0
 comes_first k l = slice_cmp nat_cmp k l ≡ Less
 
 -- the key comes before each of these
-abbrev IsBelow : List ℕ → Members → Type 0
+abbrev pub IsBelow : List ℕ → Members → Type 0
 IsBelow k no_members = Unit {0}
 IsBelow k (member l e ms) = comes_first k l × IsBelow k ms
 

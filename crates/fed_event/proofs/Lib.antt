@@ -1,7 +1,10 @@
 pub mod Selecting
 pub mod Redacting
-pub mod Plain
+pub mod KeyAmong
 pub mod Parts
 pub mod Building
+pub mod RedactionPasses
 pub mod Faults
 pub mod Reading
+pub mod DecodedSignatures
+pub mod SealedEvents

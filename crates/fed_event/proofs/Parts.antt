@@ -41,7 +41,7 @@ shallow-members d ps h low = let is = ap depth (object-as_members d ps h) in ome
 pub kept_content-members : (keys : List (List ℕ)) (d : Data) (ps : List (List ℕ × Data)) → as_members d ≡ Some ps → kept_content keys d ≡ object (select (is_one_of keys) (members_of ps))
 kept_content-members keys d ps h = ap (kept_content keys) (object-as_members d ps h)
 
-members-select : (test : List ℕ → Bool) (ms : Members) → members_depth (select test ms) ≤ members_depth ms
+pub members-select : (test : List ℕ → Bool) (ms : Members) → members_depth (select test ms) ≤ members_depth ms
 members-select test no_members = omega arith
 members-select test (member k d ms) =
     cond_both (test k) (member k d (select test ms)) (select test ms) (λ kept. members_depth kept ≤ members_depth (member k d ms))

@@ -1,11 +1,15 @@
 -- What redaction does to members, and what it leaves alone.
-use Rattle.std.proofs.Common.{◌≡◌, ◌≢◌, ℕ, List, Bool, true, false, ◌&&◌, not, None, option_map, option_and_then, unwrap_or, IsSome, codes, refl, sym, ◌∙◌, ap}
+use Rattle.std.proofs.Common.{◌≡◌, ◌≢◌, ℕ, List, ◌∷◌, Bool, true, false, ◌&&◌, not, None, option_map, option_and_then, unwrap_or, IsSome, codes, refl, sym, ◌∙◌, ap}
 use Rattle.std.proofs.Math.Bool.{and_self}
+use Rattle.sha2.specs.Sha256.{sha256}
+use Rattle.base64.specs.Engines.{url_safe_no_pad}
+use Rattle.base64.specs.GeneralPurpose.{encode_of}
 use Rattle.serde_json.specs.Data.{Data, null, boolean, number, string, array, object, Members, no_members}
 use Rattle.serde_json.specs.Find.{get, as_str, as_object}
+use Rattle.fed_json.specs.CanonicalText.{canonical_text}
 use Rattle.fed_event.specs.Names.{is_one_of, select, at_name, leave_out}
 use Rattle.fed_event.specs.Redaction.{event_keys, type_of, content_keys, kept_content, redacted_members, redacted}
-use Rattle.fed_event.specs.EventId.{unsigned_keys, signed_part}
+use Rattle.fed_event.specs.EventId.{unsigned_keys, signed_part, event_id_of}
 use Rattle.fed_event.specs.Laws.{AreUnsigned}
 use Rattle.fed_event.proofs.Selecting.{select-same, select-select, select-at_name, at_name-at_name, at_name-same, get_member-select, get_member-dropped, get_member-other, get_member-at_name}
 
@@ -131,3 +135,20 @@ signed_part-leave_out names (object ms) h =
     let keys = content_keys (type_of (object ms)) in
     ap (λ kind. object (select (λ k. not (is_one_of unsigned_keys k)) (redacted_members (content_keys kind) left))) (type-left_out names ms h)
     ∙ ap object (signed-covered keys left ∙ ap (at_name (codes "content") (kept_content keys)) (covered-left_out names ms h) ∙ sym (signed-covered keys ms))
+
+-- ---- what is signed decides
+
+-- the id, from what is signed
+abbrev pub event_id_from : Data → List ℕ
+event_id_from part = 36 ∷ encode_of url_safe_no_pad (sha256 (canonical_text part))
+
+pub event_id_of-redacted : (d : Data) → event_id_of (redacted d) ≡ event_id_of d
+event_id_of-redacted d = ap event_id_from (signed_part-redacted d)
+
+pub get-leave_out : (names : List (List ℕ)) (k : List ℕ) (d : Data) → is_one_of names k ≡ false → get k (leave_out names d) ≡ get k d
+get-leave_out names k null out = refl
+get-leave_out names k (boolean b) out = refl
+get-leave_out names k (number n) out = refl
+get-leave_out names k (string s) out = refl
+get-leave_out names k (array ds) out = refl
+get-leave_out names k (object ms) out = get_member-select (λ n. not (is_one_of names n)) k ms (ap not out)

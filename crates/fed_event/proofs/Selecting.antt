@@ -49,7 +49,7 @@ at_name-same n f g same (member k d ms) = ap₂ (λ v rest. member k (cond (byte
 
 -- ---- looking up
 
-same_name : (k l : List ℕ) → is_eq (slice_cmp nat_cmp k l) ≡ true → k ≡ l
+pub same_name : (k l : List ℕ) → is_eq (slice_cmp nat_cmp k l) ≡ true → k ≡ l
 same_name k l h = (bytes_eq-Decides k l).0 (sym (is_eq-slice_cmp k l) ∙ h)
 
 found_kept : (b : Bool) (o : Ordering) (d : Option Data) (e : Data) → (is_eq o ≡ true → b ≡ true) → cond b (match_ordering o d (Some e) d) d ≡ match_ordering o d (Some e) d

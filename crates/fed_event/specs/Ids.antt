@@ -1,12 +1,11 @@
 -- Identifiers of users, rooms and events (Matrix, appendix "Common Namespace Format"): a sigil, then a localpart and, behind the
 -- first colon, the name of a server.
-use Rattle.std.specs.Prelude.{ℕ, List, [], ◌∷◌, ◌==◌, ◌&&◌, Bool, nat_le, length, slice_index, if◌then◌else◌}
-use Rattle.std.specs.List.{list_any}
+use Rattle.std.specs.Prelude.{ℕ, List, ◌==◌, ◌&&◌, Bool, nat_le, length, slice_index}
+use Rattle.std.specs.List.{list_any, after_first}
 
 -- what follows the first colon, which is 58; nothing where there is none
 abbrev pub domain_of : List ℕ → List ℕ
-domain_of [] = []
-domain_of (c ∷ text) = if c == 58 then text else domain_of text
+domain_of id = after_first (λ c. c == 58) id
 
 -- a text that begins with this character and has a colon
 abbrev pub is_id_text : ℕ → List ℕ → Bool

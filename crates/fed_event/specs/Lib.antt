@@ -1,5 +1,4 @@
 pub mod Names
-pub mod Plain
 pub mod Redaction
 pub mod EventId
 pub mod Field
@@ -13,3 +12,6 @@ pub mod EventIds
 pub mod ContentHash
 pub mod Signatures
 pub mod Checked
+pub mod Keys
+pub mod CheckVerdict
+pub mod Sealing

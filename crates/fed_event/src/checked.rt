@@ -1,10 +1,23 @@
 // Events that have passed the checks on receipt.
-ghost use Rattle.std.specs.Prelude.{◌≡◌, IfOk};
+ghost use Rattle.std.specs.Prelude.{◌≡◌, true, false, IfOk, OnOk, IsErrOf, string_bytes, option_map, if◌then◌else◌};
+ghost use Rattle.serde_json.specs.Data.{Data};
+ghost use Rattle.fed_event.specs.declared.checked.CheckFault.TheVariants.{Memory};
+ghost use Rattle.fed_event.specs.Redaction.{redacted};
+ghost use Rattle.fed_event.specs.EventId.{signed_text_of, event_id_of};
+ghost use Rattle.fed_event.specs.ContentHash.{hash_fits_of};
+ghost use Rattle.fed_event.specs.Signatures.{Checks, is_signed as is_signed_by_sender};
+ghost use Rattle.fed_event.specs.Checked.{authorising_user_of, is_authorised as is_authorised_by, checked_of};
+ghost use Rattle.fed_event.specs.CheckVerdict.{check_verdict_of};
 
+use crate::ids::domain;
+use crate::keys::Keys;
 use crate::pdu::Pdu;
+use crate::signature::is_signed_by;
+use crate::signed::signed_text;
 use fed_json::NoMemory;
 use std::alloc::Global;
 use std::marker::Model;
+use thiserror::Error;
 
 /// An event that has passed the checks on receipt that need no room (Server-Server API, "Checks performed on receipt of a PDU",
 /// checks 1 to 3): the event itself, or its redaction where the content hash does not fit, and whether the server of
@@ -50,3 +63,100 @@ impl Checked {
         })
     }
 }
+
+/// Why an event is refused on receipt. Its text is the verdict that a transaction's reply gives.
+#[derive(Clone, Copy, Debug, PartialEq, Eq, Error)]
+pub enum CheckFault {
+    /// Memory ran out.
+    #[error("out of memory")]
+    Memory,
+    /// No key of the sender's server has signed the event.
+    #[error("bad signature")]
+    BadSignature,
+}
+
+impl CheckFault {
+    /// The text that is displayed.
+    pub fn verdict_text(self, alloc: Global) -> Result<String, NoMemory>
+        ensures { IfOk result (λ text. string_bytes text ≡ check_verdict_of self) }
+    {
+        match self {
+            CheckFault::Memory => String::from_str(alloc, "out of memory"),
+            CheckFault::BadSignature => String::from_str(alloc, "bad signature"),
+        }
+    }
+}
+
+impl From<NoMemory> for CheckFault {
+    ghost from_gives = { λ _ e. e ≡ Memory };
+
+    fn from(_error: NoMemory) -> CheckFault {
+        Self::Memory
+    }
+}
+
+/// Checks an event on receipt (Server-Server API, "Checks performed on receipt of a PDU", checks 2 and 3): some key of the sender's
+/// server has signed it, and what is kept is the event where its content hash fits, else its redaction. Whether the server of
+/// `join_authorised_via_users_server` has signed is read from the event that came.
+///
+/// # Errors
+///
+/// `BadSignature` where no key of the sender's server has signed the event. `Memory` where memory ran out.
+pub fn check_in<K: Keys>(alloc: Global, event: Pdu, keys: &K) -> Result<Checked, CheckFault>
+    ensures ok { IfOk result (λ checked. checked ≡ checked_of (K.checks keys.now) event) }
+    ensures signed { OnOk result (is_signed_by_sender (K.checks keys.now) event ≡ true) }
+    ensures unsigned { IsErrOf result CheckFault.BadSignature → is_signed_by_sender (K.checks keys.now) event ≡ false }
+{
+    let signed = signed_text(alloc, event.json())?;
+    if !is_signed(keys, &event, &signed) {
+        return Err(CheckFault::BadSignature);
+    }
+    let authorised = is_authorised(keys, &event, &signed);
+    let event = kept(alloc, event)?;
+    Ok(Checked { event, authorised })
+}
+
+// The event where its content hash fits, else its redaction.
+fn kept(alloc: Global, event: Pdu) -> Result<Pdu, NoMemory>
+    ensures { IfOk result (λ kept. kept ≡ (if hash_fits_of event then event else redacted event)) }
+{
+    if event.hash_fits() {
+        Ok(event)
+    } else {
+        event.redacted(alloc)
+    }
+}
+
+// Whether the server of the sender has signed the event, whose signed text this is.
+fn is_signed<K: Keys>(keys: &K, event: &Pdu, signed: &[u8]) -> bool
+    requires { signed.now ≡ signed_text_of event.now }
+    ensures { result ≡ is_signed_by_sender (K.checks keys.now) event.now }
+{
+    is_signed_by(keys, domain(event.sender()), event.json(), signed)
+}
+
+// Whether the server of the user that authorises a join has signed the event, whose signed text this is.
+fn is_authorised<K: Keys>(keys: &K, event: &Pdu, signed: &[u8]) -> bool
+    requires { signed.now ≡ signed_text_of event.now }
+    ensures { result ≡ is_authorised_by (K.checks keys.now) event.now }
+{
+    match authorising_user(event) {
+        Some(user) => is_signed_by(keys, domain(user), event.json(), signed),
+        None => false,
+    }
+}
+
+// The user that authorises a join, where there is one that is a text.
+fn authorising_user(event: &Pdu) -> Option<&str>
+    ensures { option_map (λ s. s.now) result ≡ authorising_user_of event.now }
+{
+    event
+        .content()
+        .member("join_authorised_via_users_server")?
+        .text()
+}
+
+/// An event that has passed the checks on receipt has the id of the event that came, redacted or not.
+pub fn ids_of_checked()
+    ensures { (checks : Checks) (event : Data) → event_id_of (checked_of checks event).event ≡ event_id_of event }
+{}

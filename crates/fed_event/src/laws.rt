@@ -4,8 +4,10 @@ ghost use Rattle.serde_json.specs.Data.{Data};
 ghost use Rattle.serde_json.specs.Find.{as_object, get};
 ghost use Rattle.fed_event.specs.Names.{is_one_of, leave_out};
 ghost use Rattle.fed_event.specs.Redaction.{redacted, event_keys, type_of, content_keys, kept_content};
-ghost use Rattle.fed_event.specs.EventId.{signed_part, event_id_of};
+ghost use Rattle.fed_event.specs.EventId.{unsigned_keys, signed_part, event_id_of};
 ghost use Rattle.fed_event.specs.Laws.{AreUnsigned};
+ghost use Rattle.fed_event.specs.Tests.{first_fault_of};
+ghost use Rattle.fed_json.specs.Profile.{IsProfile};
 
 /// Redacting twice is redacting once.
 pub fn redacted_once()
@@ -37,4 +39,16 @@ pub fn unsigned_changes()
         → event_id_of d ≡ event_id_of e }
     ensures unsigned { (d : Data) → event_id_of (leave_out (codes "unsigned" ∷ []) d) ≡ event_id_of d }
     ensures signatures { (d : Data) → event_id_of (leave_out (codes "signatures" ∷ []) d) ≡ event_id_of d }
+{}
+
+/// The redaction of an event that passes all tests of an event passes them too.
+pub fn redaction_passes()
+    ensures { (d : Data) → IsProfile d → first_fault_of d ≡ None → first_fault_of (redacted d) ≡ None }
+{}
+
+/// What is signed of an event decides its id, and all that redaction leaves of it but what is under `signatures` and `unsigned`.
+pub fn what_is_signed()
+    ensures id { (d e : Data) → signed_part d ≡ signed_part e → event_id_of d ≡ event_id_of e }
+    ensures left { (d e : Data) (k : List ℕ) → signed_part d ≡ signed_part e → is_one_of unsigned_keys k ≡ false
+        → get k (redacted d) ≡ get k (redacted e) }
 {}

@@ -9,9 +9,14 @@
 //! - `event_ids`: `EventIds`, the ids of events in a field, one after another
 //! - `validity`: the tests
 //! - `checked`: `Checked`, an event that has passed the checks on receipt
+//! - `keys`: `Keys`, what signs and checks signatures, and two stand-ins for it
+//! - `signature`: the signatures of an event
+//! - `sealing`: events that the own server makes
+//! - `hash`: the content hash of an event
+//! - `ids`: the parts of identifiers
 //! - `field`, `fault`: the fields of an event, and why a value is no event
 //! - `laws`: what holds of all redactions and ids
-//! - `kept`: the keys that redaction keeps
+//! - `kept`, `names`: the keys that redaction keeps, and names as they are written
 #![tactic(auto)]
 
 mod checked;
@@ -19,25 +24,41 @@ mod event_ids;
 mod fault;
 mod field;
 mod fields;
+mod hash;
 mod id;
+mod ids;
 mod kept;
+mod keys;
 mod laws;
+mod names;
 mod pdu;
 mod redaction;
+mod sealing;
+mod signature;
 mod signed;
 #[cfg(test)]
 mod tests;
+#[cfg(test)]
+mod tests_hash;
+#[cfg(test)]
+mod tests_keys;
 mod validity;
 
-pub use checked::Checked;
+pub use checked::{CheckFault, Checked, check_in, ids_of_checked};
 pub use event_ids::EventIds;
 pub use fault::PduFault;
 pub use field::Field;
+pub use hash::content_hash;
 pub use id::{EventId, event_id};
-pub use laws::{ids_of_redactions, redacted_once, unsigned_changes, what_redaction_keeps};
+pub use ids::{domain, is_user_id};
+pub use keys::{Keys, StandIn, Trusting, stand_ins_agree};
+pub use laws::{
+    ids_of_redactions, redacted_once, redaction_passes, unsigned_changes, what_is_signed,
+    what_redaction_keeps,
+};
 pub use pdu::Pdu;
 pub use redaction::redact;
+pub use sealing::{is_sent_by, seal};
+pub use signature::{is_signed_by, signature_of};
 pub use signed::signed_text;
-pub use validity::{
-    MAX_AUTH_EVENTS, MAX_DEPTH, MAX_PREV_EVENTS, MAX_SIZE, MAX_TEXT, first_fault,
-};
+pub use validity::{MAX_AUTH_EVENTS, MAX_DEPTH, MAX_PREV_EVENTS, MAX_SIZE, MAX_TEXT, first_fault};

@@ -3,11 +3,15 @@ ghost use Rattle.std.specs.Prelude.{◌≡◌, ◌≢◌, Some, None, Ok, Err, l
 ghost use Rattle.fed_json.specs.CanonicalText.{canonical_text};
 ghost use Rattle.fed_event.specs.declared.fault.PduFault.TheVariants.{Memory};
 ghost use Rattle.fed_event.specs.EventId.{event_id_of};
-ghost use Rattle.fed_event.specs.Reading.{event_of, read_of};
+ghost use Rattle.fed_event.specs.Reading.{read_of};
+ghost use Rattle.fed_event.specs.ContentHash.{hash_fits_of};
+ghost use Rattle.fed_event.specs.Redaction.{redacted};
 ghost use Rattle.fed_event.specs.Tests.{first_fault_of};
 
 use crate::fault::PduFault;
+use crate::hash::hash_fits;
 use crate::id::{EventId, event_id};
+use crate::redaction::redact;
 use crate::validity::first_fault;
 use fed_json::{Json, JsonFault, MAX_LEVELS, NoMemory, canonical, read_within};
 use std::alloc::Global;
@@ -27,6 +31,7 @@ use std::marker::Model;
 pub struct Pdu {
     json: Json,
     id: EventId,
+    hash_fits: bool,
 }
 
 impl Model for Pdu {
@@ -34,6 +39,7 @@ impl Model for Pdu {
     ghost use Rattle.serde_json.specs.Data.{Data};
     ghost use Rattle.fed_json.specs.Code.{coded_data};
     ghost use Rattle.fed_event.specs.EventId.{event_id_of};
+    ghost use Rattle.fed_event.specs.ContentHash.{hash_fits_of};
     ghost use Rattle.fed_event.specs.Tests.{first_fault_of};
 
     ghost Value = { Data };
@@ -42,7 +48,8 @@ impl Model for Pdu {
 
     ghost view = { λ p. p.json };
 
-    ghost invariant = { λ p. (first_fault_of p.json ≡ None) × (p.id ≡ event_id_of p.json) };
+    ghost invariant = { λ p. (first_fault_of p.json ≡ None) × (p.id ≡ event_id_of p.json)
+        × (p.hash_fits ≡ hash_fits_of p.json) };
 }
 
 impl Pdu {
@@ -81,24 +88,54 @@ impl Pdu {
     {
         let size = canonical(alloc, &json)?.len();
         let id = event_id(alloc, &json)?;
-        Pdu::with_id(json, size, id)
+        Pdu::with_id(alloc, json, size, id)
     }
 
-    /// The event that a value is, whose canonical text has `size` bytes and whose id is `id`: for a caller that has both. It takes
-    /// no memory.
+    /// The event that a value is, whose canonical text has `size` bytes and whose id is `id`: for a caller that has both.
     ///
     /// # Errors
     ///
-    /// Those of `of_json`, but for `Memory`.
-    pub fn with_id(json: Json, size: usize, id: EventId) -> Result<Pdu, PduFault>
+    /// Those of `of_json`.
+    pub fn with_id(alloc: Global, json: Json, size: usize, id: EventId) -> Result<Pdu, PduFault>
         requires size { size ≡ length (canonical_text json) }
         requires id { id ≡ event_id_of json }
-        ensures { result ≡ event_of json }
+        ensures ok { IfOk result (λ p. p ≡ json) }
+        ensures passes { IfOk result (λ _. first_fault_of json ≡ None) }
+        ensures fails { IfErr result (λ e. e ≢ Memory → first_fault_of json ≡ Some e) }
+        ensures only { IsNone (first_fault_of json) → IsOkUnless result Memory }
+        ensures refuses { IsSome (first_fault_of json) → IsErr result }
     {
-        match first_fault(&json, size) {
-            Some(fault) => Err(fault),
-            None => Ok(Pdu { json, id }),
+        if let Some(fault) = first_fault(&json, size) {
+            return Err(fault);
         }
+        let hash_fits = hash_fits(alloc, &json)?;
+        Ok(Pdu {
+            json,
+            id,
+            hash_fits,
+        })
+    }
+
+    /// Whether the content hash that the event gives at `hashes.sha256` is the one that it has (Server-Server API, "Calculating the
+    /// content hash for an event").
+    pub fn hash_fits(&self) -> bool
+        ensures { result ≡ hash_fits_of self.now }
+    {
+        self.hash_fits
+    }
+
+    // The redaction, which is an event too.
+    pub(crate) fn redacted(&self, alloc: Global) -> Result<Pdu, NoMemory>
+        ensures { IfOk result (λ p. p ≡ redacted self.now) }
+    {
+        let json = redact(alloc, &self.json)?;
+        let id = self.id.copy(alloc)?;
+        let hash_fits = hash_fits(alloc, &json)?;
+        Ok(Pdu {
+            json,
+            id,
+            hash_fits,
+        })
     }
 
     /// The id.
@@ -121,7 +158,7 @@ impl Pdu {
         ensures value { result ≡ self }
         ensures passes { first_fault_of self ≡ None }
     {
-        let Pdu { json, id: _id } = self;
+        let Pdu { json, .. } = self;
         json
     }
 
@@ -131,6 +168,10 @@ impl Pdu {
     {
         let json = self.json.copy()?;
         let id = self.id.copy(alloc)?;
-        Ok(Pdu { json, id })
+        Ok(Pdu {
+            json,
+            id,
+            hash_fits: self.hash_fits,
+        })
     }
 }

@@ -1,11 +1,12 @@
 // What redaction leaves of an event.
-ghost use Rattle.std.specs.Prelude.{◌≡◌, ◌<◌, IfOk, map, option_map};
+ghost use Rattle.std.specs.Prelude.{◌≡◌, ◌<◌, None, IfOk, map, option_map};
 ghost use Rattle.serde_json.specs.Data.{object, members_depth};
 ghost use Rattle.serde_json.specs.Read.{max_depth};
 ghost use Rattle.fed_json.specs.JsonRef.{seen};
 ghost use Rattle.fed_json.specs.Members.{members_left};
 ghost use Rattle.fed_event.specs.Names.{is_one_of, select, members_of};
 ghost use Rattle.fed_event.specs.Redaction.{redacted, redacted_members, kept_content, type_of};
+ghost use Rattle.fed_event.specs.Tests.{first_fault_of};
 
 use crate::kept::{content_keys, is_among, is_kept};
 use fed_json::{Json, JsonRef, Members, NoMemory};
@@ -14,8 +15,11 @@ use std::alloc::Global;
 /// The redaction of an event (room version 10, "Redactions"): the top-level keys that the algorithm keeps, and of `content` the
 /// keys that it keeps for the event's type. `content` becomes an empty object where it is no object; a `type` that is missing or
 /// no text is one for which no key is kept. A value that is no object stays as it is.
+///
+/// Of an event that passes the tests, the redaction does.
 pub fn redact(alloc: Global, event: &Json) -> Result<Json, NoMemory>
-    ensures { IfOk result (λ json. json ≡ redacted event.now) }
+    ensures redacted { IfOk result (λ json. json ≡ redacted event.now) }
+    ensures passes { first_fault_of event.now ≡ None → first_fault_of (redacted event.now) ≡ None }
 {
     let event = event.root();
     match event.members() {

@@ -1,16 +1,15 @@
 // The bytes of an event that are signed and hashed.
-ghost use Rattle.std.specs.Prelude.{◌≡◌, ◌∷◌, [], ◌++◌, not, IfOk, OnOk, map};
-ghost use Rattle.json.specs.Print.{quoted};
+ghost use Rattle.std.specs.Prelude.{◌≡◌, ◌++◌, not, IfOk, OnOk, map};
 ghost use Rattle.serde_json.specs.Data.{object};
-ghost use Rattle.fed_json.specs.CanonicalText.{canonical_text, comma};
+ghost use Rattle.fed_json.specs.CanonicalText.{canonical_text};
 ghost use Rattle.fed_json.specs.JsonRef.{seen};
 ghost use Rattle.fed_json.specs.Members.{members_left};
 ghost use Rattle.fed_event.specs.Names.{is_one_of, select, members_of};
-ghost use Rattle.fed_event.specs.Plain.{IsPlain, ArePlain};
 ghost use Rattle.fed_event.specs.Redaction.{redacted_members, kept_content};
 ghost use Rattle.fed_event.specs.EventId.{signed_part, unsigned_keys};
 
 use crate::kept::{content_keys, is_among, is_signed};
+use crate::names::append_name;
 use crate::redaction::event_type;
 use fed_json::{Json, JsonRef, Members, NoMemory};
 use std::alloc::Global;
@@ -38,7 +37,6 @@ fn append_event(
     members: Members<'_>,
     keys: &[&str],
 ) -> Result<(), NoMemory>
-    requires { ArePlain (map (λ key. key.now) keys.now) }
     ensures { let kept = redacted_members (map (λ key. key.now) keys.now) (members_of (members_left members.entry)) in
         OnOk result (text.new.items
         ≡ text.old.items ++ canonical_text (object (select (λ k. not (is_one_of unsigned_keys k)) kept))) }
@@ -67,7 +65,6 @@ fn append_content(
     content: JsonRef<'_>,
     keys: &[&str],
 ) -> Result<(), NoMemory>
-    requires { ArePlain (map (λ key. key.now) keys.now) }
     ensures { let kept = kept_content (map (λ key. key.now) keys.now) (seen content.entry) in
         OnOk result (text.new.items ≡ text.old.items ++ canonical_text kept) }
 {
@@ -84,7 +81,6 @@ fn append_kept(
     members: Members<'_>,
     keys: &[&str],
 ) -> Result<(), NoMemory>
-    requires { ArePlain (map (λ key. key.now) keys.now) }
     ensures { let kept = select (is_one_of (map (λ key. key.now) keys.now)) (members_of (members_left members.entry)) in
         OnOk result (text.new.items ≡ text.old.items ++ canonical_text (object kept)) }
 {
@@ -99,14 +95,4 @@ fn append_kept(
     }
     text.push(b'}')?;
     Ok(())
-}
-
-// Appends the name of a member, behind a comma where one stands before it.
-fn append_name(text: &mut Vec<u8>, later: bool, name: &str) -> Result<(), NoMemory>
-    requires { IsPlain name.now }
-    ensures { OnOk result (text.new.items ≡ text.old.items ++ (comma later ++ (quoted name.now ++ 58 ∷ []))) }
-{
-    text.extend_from_slice(if later { b",\"" } else { b"\"" })?;
-    text.extend_from_slice(name.as_bytes())?;
-    text.extend_from_slice(b"\":")
 }

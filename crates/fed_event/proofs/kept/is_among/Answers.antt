@@ -1,5 +1,5 @@
 use Rattle.std.proofs.Common.{◌∙◌}
-use Rattle.fed_event.proofs.Plain.{any-one_of}
+use Rattle.fed_event.proofs.KeyAmong.{any-one_of}
 use Rattle.fed_event.proofs.kept.is_among.Goals as goal
 
 pub returns : goal.returns

@@ -1,4 +1,4 @@
-use Rattle.std.proofs.Common.{◌≡◌, not, map, option_map, ◌++◌, subst, sym, ◌∙◌, ap}
+use Rattle.std.proofs.Common.{◌≡◌, not, map, ◌++◌, sym, ◌∙◌, ap}
 use Rattle.fed_json.specs.CanonicalText.{canonical_text}
 use Rattle.fed_json.specs.JsonRef.{seen}
 use Rattle.fed_json.specs.Members.{members_left}
@@ -6,14 +6,9 @@ use Rattle.fed_event.specs.Redaction.{content_keys, type_of, redacted_members}
 use Rattle.fed_event.specs.EventId.{unsigned_keys, signed_part}
 use Rattle.fed_event.specs.Names.{is_one_of, select, members_of}
 use Rattle.serde_json.specs.Data.{object}
-use Rattle.fed_event.specs.Plain.{ArePlain}
 use Rattle.fed_event.proofs.Parts.{signed_part-members, signed_part-other}
-use Rattle.fed_event.proofs.Plain.{plain-content_keys}
 use Rattle.fed_event.proofs.signed.signed_text.Goals as goal
 use Rattle.fed_event.proofs.signed.signed_text.Goals.{in-Some+in_ok-append_event-in-Some, in-None+in_ok-append_to-in-None}
-
-pub append_event-requires : goal.append_event-requires
-append_event-requires c = subst ArePlain (sym c.content_keys.ensures) (plain-content_keys (option_map (λ s. s.now) c.event_type.result))
 
 pub returns : goal.returns
 returns c =
