@@ -1,5 +1,6 @@
 -- How far the elements of a transaction are entered.
-use Rattle.std.proofs.Common.{◌≡◌, ℕ, List, [], ◌∷◌, ◌++◌, Bool, true, false, ◌&&◌, ◌||◌, not, cond, if◌then◌else◌, Option, Some, None, is_some, is_none, map, filter, bytes_eq, refl, sym, ap, ◌∙◌, append_assoc, ◌⊎◌, inl, inr}
+use Rattle.std.proofs.Common.{◌≡◌, ℕ, List, [], ◌∷◌, ◌++◌, Bool, true, false, ◌&&◌, ◌||◌, not, cond, if◌then◌else◌, Option, Some, is_some, is_none, map, filter, bytes_eq, refl, sym, ap, ◌∙◌, append_assoc, ◌⊎◌, inl, inr}
+use Rattle.std.proofs.lemmas.List.{append-nil}
 use Rattle.std.specs.FinMap as finite
 use Rattle.std.specs.Cmp.Lexicographic.{slice_cmp, nat_list_cmp_total}
 use Rattle.std.specs.Ordering.{is_eq, nat_cmp}
@@ -11,7 +12,7 @@ use Rattle.fed_event.specs.EventId.{event_id_of}
 use Rattle.fed_event.specs.Signatures.{Checks}
 use Rattle.fed_event.specs.Checked.{CheckedEvent, checked_of}
 use Rattle.fed_txn.specs.Verdicts.{VerdictMap}
-use Rattle.fed_inbox.specs.Taking.{firsts_but, firsts, verdict_on, with_verdicts, verdicts_on, passing, fresh_of}
+use Rattle.fed_inbox.specs.Taking.{firsts_but, verdict_on, with_verdicts, verdicts_on, passing, fresh_of}
 use Rattle.fed_inbox.specs.ReceivedParts.{Entered, with_event, after_element}
 
 cases : (b : Bool) → (b ≡ true) ⊎ (b ≡ false)
@@ -36,7 +37,7 @@ module _ (checks : Checks) (rooms : List (List ℕ)) where
     pub fresh : so_far.1 ++ passing checks rooms (firsts_but known left) ≡ fresh_of checks rooms all
 
   pub enters_first : (all : List Data) → Enters (finite.empty, []) all all
-  enters_first all = record { known = []; keys = λ id. ap is_some (finite.get-empty id); verdicts = refl; fresh = refl }
+  enters_first all = record { known = []; keys = λ id. ap is_some (finite.get-empty (slice_cmp nat_cmp) id); verdicts = refl; fresh = refl }
 
   one_more : (event : Data) (events : List Data) (fresh : List CheckedEvent)
       → (if is_none (verdict_on checks rooms event) then fresh ++ checked_of checks event ∷ [] else fresh) ++ passing checks rooms events ≡ fresh ++ passing checks rooms (event ∷ events)
@@ -76,3 +77,6 @@ module _ (checks : Checks) (rooms : List (List ℕ)) where
         verdicts = ap (with_verdicts checks rooms so_far.0) (sym (firsts_by false is)) ∙ reached.verdicts;
         fresh = ap (λ events. so_far.1 ++ passing checks rooms events) (sym (firsts_by false is)) ∙ reached.fresh;
       })
+
+  pub enters_last : (so_far : Entered) (all : List Data) → Enters so_far [] all → (so_far.0 ≡ verdicts_on checks rooms all) × (so_far.1 ≡ fresh_of checks rooms all)
+  enters_last so_far all reached = (reached.verdicts, sym (append-nil so_far.1) ∙ reached.fresh)

@@ -1,5 +1,5 @@
 -- Sets of rooms by their bytes.
-use Rattle.std.proofs.Common.{◌≡◌, ℕ, List, [], ◌∷◌, map, Bool, Ordering, Less, Equal, Greater, nat_cmp, String, string_bytes, ◌||◌, refl, ap, ◌∙◌}
+use Rattle.std.proofs.Common.{◌≡◌, ℕ, List, [], ◌∷◌, map, Bool, Less, Equal, Greater, nat_cmp, String, string_bytes, bytes_eq, ◌||◌, refl, ap, ◌∙◌}
 use Rattle.std.specs.declared.alloc.Global.{Global}
 use Rattle.std.specs.List.{list_any}
 use Rattle.std.specs.Ordering.{match_ordering}
@@ -19,4 +19,7 @@ inserted (x ∷ xs) k =
 
 pub found : (room : List ℕ) (ks : List (String Global)) → list_any (is_at (λ k. slice_cmp nat_cmp room (string_bytes k))) ks ≡ is_one_of (map string_bytes ks) room
 found room [] = refl
-found room (x ∷ xs) = rw (is_eq-slice_cmp room (string_bytes x)) (ap (λ b. ◌||◌ _ b) (found room xs))
+found room (x ∷ xs) = ap (λ b. b || is_room xs) (is_eq-slice_cmp room (string_bytes x)) ∙ ap (λ b. bytes_eq room (string_bytes x) || b) (found room xs)
+  where
+    is_room : List (String Global) → Bool
+    is_room ks = list_any (is_at (λ k. slice_cmp nat_cmp room (string_bytes k))) ks

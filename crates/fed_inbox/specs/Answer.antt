@@ -1,7 +1,6 @@
 -- What an inbox answers to a request `PUT /_matrix/federation/v1/send/{txnId}`, and its state afterwards (Server-Server API,
 -- "Transactions"; a transaction that was answered before gets the same answer, and is not taken again).
 use Rattle.std.specs.Prelude.{◌≡◌, ℕ, List, [], ◌++◌, Bool, false, not, Option, Some, None, option_map, unwrap_or, Result, Ok, Err, if◌then◌else◌}
-use Rattle.fed_inbox.specs.declared.refusal.Refusal.{Refusal}
 use Rattle.std.specs.Str.{bytes_eq}
 use Rattle.std.specs.FinMap as finite
 use Rattle.serde_json.specs.Data.{Data}

@@ -30,6 +30,7 @@ impl Model for Rooms {
 }
 
 impl Rooms {
+    #[tactic(auto, using(crate::proofs::RoomSets::inserted))]
     pub(crate) fn new(alloc: Global, rooms: Vec<String>) -> Result<Rooms, NoMemory>
         ensures { IfOk result (λ r. r ≡ room_set (map string_bytes rooms.items)) }
     {

@@ -26,6 +26,3 @@ returns-clause-ok c =
     let replies : text_map (λ (v : Vec ℕ Global). v.items) c.insert.new.self.entries ≡ finite.insert (text_map (λ (v : Vec ℕ Global). v.items) l.replies.entries) c.args.txn.now o.reply.items =
     entered ∙ ap (λ k. finite.insert (text_map (λ (v : Vec ℕ Global). v.items) l.replies.entries) k o.reply.items) c.in_ok-number.ensures.ok in
     same_log refl replies (appended l.pdus.items o.pdus.items pdus) (appended l.edus.items o.edus.items edus) ∙ ap (λ (s : LogState). with_taking s c.args.txn.now (taking o)) c.self.view_is
-
-pub returns-clause-answer : goal.returns-clause-answer
-returns-clause-answer c = c.in_ok-answer.ensures.items ∙ c.deref.ensures.value
