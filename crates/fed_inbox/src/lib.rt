@@ -21,6 +21,8 @@ mod reply;
 mod rooms;
 #[cfg(test)]
 mod tests;
+#[cfg(test)]
+mod tests_events;
 mod verdict;
 
 pub use inbox::Inbox;
