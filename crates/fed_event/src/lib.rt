@@ -27,6 +27,8 @@ mod redaction;
 mod signed;
 #[cfg(test)]
 mod tests;
+#[cfg(test)]
+mod tests_pdu;
 mod validity;
 
 pub use checked::Checked;
