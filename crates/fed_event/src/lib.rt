@@ -40,6 +40,10 @@ mod signed;
 mod tests;
 #[cfg(test)]
 mod tests_keys;
+#[cfg(test)]
+mod tests_pdu;
+#[cfg(test)]
+mod tests_sealing;
 mod validity;
 
 pub use checked::{CheckFault, Checked, check_in, ids_of_checked};
