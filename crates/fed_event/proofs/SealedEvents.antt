@@ -1,6 +1,6 @@
 -- An event that is hashed and signed has its hash and its signature.
 use Rattle.std.proofs.Common.{◌≡◌, ◌≢◌, ℕ, List, [], ◌∷◌, Bool, true, false, ◌&&◌, ◌||◌, not, cond, Ordering, Less, Equal, Greater, nat_cmp, is_eq, Option, Some, None, option_and_then, unwrap_or, IsSome, IfSome, bytes_eq, codes, refl, sym, ◌∙◌, ap, subst, true≢false}
-use Rattle.std.proofs.Math.Bool.{and-false, or-false}
+use Rattle.std.proofs.Math.Bool.{and-false}
 use Rattle.std.proofs.lemmas.Bool.{cond-false, cond-true}
 use Rattle.std.proofs.lemmas.Slice.Eq.{bytes_eq-Decides}
 use Rattle.std.proofs.lemmas.Map.Text.{is_eq-slice_cmp}
@@ -20,13 +20,12 @@ use Rattle.fed_event.specs.Names.{is_one_of, select, leave_out}
 use Rattle.fed_event.specs.declared.field.Field.TheVariants.{Sender}
 use Rattle.fed_event.specs.Tests.{holds, has_kind, first_fault_of}
 use Rattle.fed_event.specs.Ids.{domain_of, is_id_text}
-use Rattle.fed_event.specs.Fields.{sender_of, signatures_of}
 use Rattle.fed_event.specs.Redaction.{event_keys, redacted}
 use Rattle.fed_event.specs.EventId.{unsigned_keys, signed_part, signed_text_of}
-use Rattle.fed_event.specs.ContentHash.{uncovered_keys, covered_part, content_hash_of, given_hash_of, hash_fits_of}
+use Rattle.fed_event.specs.ContentHash.{uncovered_keys, content_hash_of, given_hash_of, hash_fits_of}
 use Rattle.fed_event.specs.Signatures.{Checks, signature_in, signatures_by, is_signed_by, is_signed}
 use Rattle.fed_event.specs.Checked.{CheckedEvent, checked_of}
-use Rattle.fed_event.specs.Sealing.{sender_text, IsSentBy, holding, hashed_of, signature_text_of, signed_of, sealed_of}
+use Rattle.fed_event.specs.Sealing.{sender_text, IsSentBy, holding, hashed_of, signature_text_of, sealed_of}
 use Rattle.fed_event.specs.Laws.{AreUnsigned}
 use Rattle.fed_event.proofs.Faults.{kind_passed}
 use Rattle.fed_event.proofs.Redacting.{signed_part-leave_out}
