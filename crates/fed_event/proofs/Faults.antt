@@ -39,26 +39,34 @@ none_at test (y ∷ ys) (suc i) x h is =
     [ true ↦ λ none. absurd (cc) | false ↦ λ none. none_at test ys i x none is ] h
 
 passed : (event : Data) → first_fault_of event ≡ None → (i : ℕ) (fault : PduFault) → slice_get all_tests i ≡ Some fault → fails event fault ≡ false
+unfolding first_fault_of
 passed event h i fault is = none_at (fails event) all_tests i fault h is
 
 held : (test : Data → Bool) (o : Option Data) → is_none o ≡ false → holds (λ value. not (test value)) o ≡ false → test (unwrap_or o null) ≡ true
 held test None there kind = absurd (cc)
 held test (Some value) there kind = elim (test value) as (λ b. not b ≡ false → b ≡ true) [ true ↦ λ h. refl | false ↦ λ h. absurd (cc) ] kind
 
--- what stands in a field that no event lacks is of its kind
+-- a field that no event lacks passes its test and that of its kind
+passed_both : (event : Data) (field : Field) → first_fault_of event ≡ None → IsTrue (is_needed field) → (fails event (Missing field) ≡ false) × (fails event (WrongKind field) ≡ false)
+passed_both event Event h needed = absurd (cc)
+passed_both event AuthEvents h needed = (passed event h 3 (Missing AuthEvents) refl, passed event h 13 (WrongKind AuthEvents) refl)
+passed_both event Content h needed = (passed event h 4 (Missing Content) refl, passed event h 14 (WrongKind Content) refl)
+passed_both event Depth h needed = (passed event h 5 (Missing Depth) refl, passed event h 15 (WrongKind Depth) refl)
+passed_both event Hashes h needed = (passed event h 6 (Missing Hashes) refl, passed event h 16 (WrongKind Hashes) refl)
+passed_both event OriginServerTs h needed = (passed event h 7 (Missing OriginServerTs) refl, passed event h 17 (WrongKind OriginServerTs) refl)
+passed_both event PrevEvents h needed = (passed event h 8 (Missing PrevEvents) refl, passed event h 18 (WrongKind PrevEvents) refl)
+passed_both event RoomId h needed = (passed event h 9 (Missing RoomId) refl, passed event h 19 (WrongKind RoomId) refl)
+passed_both event Sender h needed = (passed event h 10 (Missing Sender) refl, passed event h 20 (WrongKind Sender) refl)
+passed_both event Signatures h needed = (passed event h 11 (Missing Signatures) refl, passed event h 21 (WrongKind Signatures) refl)
+passed_both event StateKey h needed = absurd (cc)
+passed_both event «Type» h needed = (passed event h 12 (Missing «Type») refl, passed event h 23 (WrongKind «Type») refl)
+
+pub there_passed : (event : Data) (field : Field) → first_fault_of event ≡ None → IsTrue (is_needed field) → is_none (part field event) ≡ false
+there_passed event field h needed = (passed_both event field h needed).0
+
+-- what stands there is of its kind
 pub kind_passed : (event : Data) (field : Field) → first_fault_of event ≡ None → IsTrue (is_needed field) → has_kind field (value_at field event) ≡ true
-kind_passed event Event h needed = absurd (cc)
-kind_passed event AuthEvents h needed = held (has_kind AuthEvents) (part AuthEvents event) (passed event h 3 (Missing AuthEvents) refl) (passed event h 13 (WrongKind AuthEvents) refl)
-kind_passed event Content h needed = held (has_kind Content) (part Content event) (passed event h 4 (Missing Content) refl) (passed event h 14 (WrongKind Content) refl)
-kind_passed event Depth h needed = held (has_kind Depth) (part Depth event) (passed event h 5 (Missing Depth) refl) (passed event h 15 (WrongKind Depth) refl)
-kind_passed event Hashes h needed = held (has_kind Hashes) (part Hashes event) (passed event h 6 (Missing Hashes) refl) (passed event h 16 (WrongKind Hashes) refl)
-kind_passed event OriginServerTs h needed = held (has_kind OriginServerTs) (part OriginServerTs event) (passed event h 7 (Missing OriginServerTs) refl) (passed event h 17 (WrongKind OriginServerTs) refl)
-kind_passed event PrevEvents h needed = held (has_kind PrevEvents) (part PrevEvents event) (passed event h 8 (Missing PrevEvents) refl) (passed event h 18 (WrongKind PrevEvents) refl)
-kind_passed event RoomId h needed = held (has_kind RoomId) (part RoomId event) (passed event h 9 (Missing RoomId) refl) (passed event h 19 (WrongKind RoomId) refl)
-kind_passed event Sender h needed = held (has_kind Sender) (part Sender event) (passed event h 10 (Missing Sender) refl) (passed event h 20 (WrongKind Sender) refl)
-kind_passed event Signatures h needed = held (has_kind Signatures) (part Signatures event) (passed event h 11 (Missing Signatures) refl) (passed event h 21 (WrongKind Signatures) refl)
-kind_passed event StateKey h needed = absurd (cc)
-kind_passed event «Type» h needed = held (has_kind «Type») (part «Type» event) (passed event h 12 (Missing «Type») refl) (passed event h 23 (WrongKind «Type») refl)
+kind_passed event field h needed = let both = passed_both event field h needed in held (has_kind field) (part field event) both.0 both.1
 
 -- ---- a value, an event or none
 

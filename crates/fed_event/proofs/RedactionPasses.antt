@@ -182,6 +182,7 @@ object-there : (content : Option Data) (d : Data) → holds (λ value. not (is_o
 object-there content d h is = not_false (is_object d) (ap (holds (λ value. not (is_object value))) (sym is) ∙ h)
 
 pub redacted-passes : (d : Data) → keys_rise d ≡ true → first_fault_of d ≡ None → first_fault_of (redacted d) ≡ None
+unfolding first_fault_of
 redacted-passes null rise h = h
 redacted-passes (boolean b) rise h = h
 redacted-passes (number n) rise h = h

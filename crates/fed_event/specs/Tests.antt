@@ -110,5 +110,5 @@ fails event (TooMany field) = holds (λ ids. nat_lt (most field) (length ids)) (
 fails event TooDeep = nat_lt 100 (depth event)
 
 -- the fault of the first test that the value fails, and none of an event
-abbrev pub first_fault_of : Data → Option PduFault
+unfoldable pub first_fault_of : Data → Option PduFault
 first_fault_of event = find (fails event) all_tests

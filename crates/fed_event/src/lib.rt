@@ -42,6 +42,10 @@ mod tests;
 mod tests_hash;
 #[cfg(test)]
 mod tests_keys;
+#[cfg(test)]
+mod tests_pdu;
+#[cfg(test)]
+mod tests_sealing;
 mod validity;
 
 pub use checked::{CheckFault, Checked, check_in, ids_of_checked};

@@ -1,10 +1,8 @@
 // Worked values, one of each text, and each call with ample memory.
-use crate::{
-    EventId, Field, MAX_DEPTH, MAX_SIZE, Pdu, PduFault, event_id, first_fault, redact, signed_text,
-};
+use crate::{EventId, Field, PduFault, event_id, redact, signed_text};
 use fed_json::{Json, JsonFault, canonical, read_within};
 use sha2::{Digest, Sha256};
-use std::alloc::{AllocError, Global};
+use std::alloc::Global;
 use std::test::Fail;
 
 fn value(alloc: Global, text: &str) -> Result<Json, JsonFault> {
@@ -13,32 +11,6 @@ fn value(alloc: Global, text: &str) -> Result<Json, JsonFault> {
 
 fn id_of(alloc: Global, text: &str) -> Result<EventId, Fail> {
     Ok(event_id(alloc, &value(alloc, text)?)?)
-}
-
-// The canonical text of an event with this body.
-fn event_with(alloc: Global, body: &str) -> Result<String, AllocError> {
-    let mut text = String::from_str(alloc, "{\"auth_events\":[],\"content\":{\"body\":\"")?;
-    text.push_str(body)?;
-    text.push_str("\"},\"depth\":1,\"hashes\":{},\"origin_server_ts\":1,\"prev_events\":[],")?;
-    text.push_str("\"room_id\":\"!r:a\",\"sender\":\"@u:a\",\"signatures\":{},\"type\":\"m.x\"}")?;
-    Ok(text)
-}
-
-// Arrays inside one another, between two texts.
-fn nested(alloc: Global, levels: usize, before: &str, after: &str) -> Result<String, AllocError> {
-    let mut text = String::from_str(alloc, before)?;
-    for _ in 0..levels {
-        text.push('[')?;
-    }
-    for _ in 0..levels {
-        text.push(']')?;
-    }
-    text.push_str(after)?;
-    Ok(text)
-}
-
-fn fault_of(alloc: Global, text: &str) -> Result<Option<PduFault>, Fail> {
-    Ok(Pdu::of_json(alloc, value(alloc, text)?).err())
 }
 
 #[test]
@@ -175,120 +147,6 @@ fn redactions(rt: HostRuntime) -> Result<(), Fail> {
             "{text}"
         );
     }
-    Ok(())
-}
-
-#[test]
-fn sizes(rt: HostRuntime) -> Result<(), Fail> {
-    let alloc = rt.alloc();
-    for (bytes, fault) in [(65_536, None), (65_537, Some(PduFault::TooLarge))] {
-        let mut body = String::new(alloc);
-        let rest = event_with(alloc, "")?.len();
-        for _ in rest..bytes {
-            body.push('x')?;
-        }
-        let text = event_with(alloc, body.as_str())?;
-        assert_eq!(rt; text.len(), bytes);
-        assert_eq!(rt; fault_of(alloc, text.as_str())?, fault);
-    }
-    assert_eq!(rt; MAX_SIZE, 65_536);
-    Ok(())
-}
-
-#[test]
-fn depths(rt: HostRuntime) -> Result<(), Fail> {
-    let alloc = rt.alloc();
-    for (levels, fault) in [
-        (99, PduFault::Missing(Field::AuthEvents)),
-        (100, PduFault::TooDeep),
-    ] {
-        let text = nested(alloc, levels, "{\"content\":", "}")?;
-        assert_eq!(rt; fault_of(alloc, text.as_str())?, Some(fault));
-    }
-    assert_eq!(rt; MAX_DEPTH, 100);
-    Ok(())
-}
-
-#[test]
-fn passes(rt: HostRuntime) -> Result<(), Fail> {
-    let alloc = rt.alloc();
-    let text = event_with(alloc, "hi")?;
-    let event = value(alloc, text.as_str())?;
-    assert_eq!(rt; first_fault(&event, canonical(alloc, &event)?.len()), None);
-    let pdu = Pdu::of_json(alloc, event)?;
-    assert_eq!(rt; canonical(alloc, pdu.json())?.as_slice(), text.as_bytes());
-    assert_eq!(rt;
-        canonical(alloc, &pdu.into_json())?.as_slice(),
-        text.as_bytes()
-    );
-    Ok(())
-}
-
-#[test]
-fn missing_fields(rt: HostRuntime) -> Result<(), Fail> {
-    let alloc = rt.alloc();
-    let text = event_with(alloc, "")?;
-    for field in [
-        Field::AuthEvents,
-        Field::Content,
-        Field::Depth,
-        Field::Hashes,
-        Field::OriginServerTs,
-        Field::PrevEvents,
-        Field::RoomId,
-        Field::Sender,
-        Field::Signatures,
-        Field::Type,
-    ] {
-        let mut event = value(alloc, text.as_str())?;
-        drop(event.take(field.name()));
-        let fault = Pdu::of_json(alloc, event).err();
-        assert_eq!(rt; fault, Some(PduFault::Missing(field)), "{field}");
-    }
-    Ok(())
-}
-
-// Of two faults the one of the earlier test is given.
-#[test]
-fn first_of_two_faults(rt: HostRuntime) -> Result<(), Fail> {
-    let alloc = rt.alloc();
-    let deep = nested(alloc, 101, "", "")?;
-    assert_eq!(rt; fault_of(alloc, deep.as_str())?, Some(PduFault::TooDeep));
-    let mut large = String::from_str(alloc, "\"")?;
-    for _ in 0..65_536 {
-        large.push('x')?;
-    }
-    large.push('"')?;
-    assert_eq!(rt;
-        fault_of(alloc, large.as_str())?,
-        Some(PduFault::WrongKind(Field::Event))
-    );
-    let mut object = String::from_str(alloc, "{\"auth_events\":")?;
-    object.push_str(large.as_str())?;
-    object.push('}')?;
-    assert_eq!(rt; fault_of(alloc, object.as_str())?, Some(PduFault::TooLarge));
-    for (text, field) in [
-        ("{}", Field::AuthEvents),
-        ("{\"auth_events\":null,\"depth\":1}", Field::Content),
-        (
-            "{\"auth_events\":1,\"content\":1,\"depth\":1,\"prev_events\":1,\"room_id\":1}",
-            Field::Hashes,
-        ),
-        (
-            "{\"auth_events\":1,\"content\":1,\"depth\":1,\"hashes\":1,\"origin_server_ts\":1,\"prev_events\":1}",
-            Field::RoomId,
-        ),
-    ] {
-        assert_eq!(rt;
-            fault_of(alloc, text)?,
-            Some(PduFault::Missing(field)),
-            "{text}"
-        );
-    }
-    assert_eq!(rt;
-        fault_of(alloc, "[]")?,
-        Some(PduFault::WrongKind(Field::Event))
-    );
     Ok(())
 }
 

@@ -59,6 +59,7 @@ const MEASURED: [Field; 4] = [Field::RoomId, Field::Sender, Field::StateKey, Fie
 const COUNTED: [Field; 2] = [Field::AuthEvents, Field::PrevEvents];
 
 /// The first of a `Pdu`'s tests that a value fails, whose canonical text has `size` bytes.
+#[tactic(auto, unfolding(crate::specs::Tests::first_fault_of))]
 pub fn first_fault(event: &Json, size: usize) -> Option<PduFault>
     requires { size ≡ length (canonical_text event.now) }
     ensures { result ≡ first_fault_of event.now }
