@@ -150,3 +150,20 @@ module _ (known : Option (List ℕ)) (start : InboxState) (before now : Option (
         let (more, left_is, first) = words_next start _ before now inbox left number reached line then (Some request) took is in
         subst (λ l. Reached start (words_in bytes) before after new l (number + 1)) (sym left_is)
         (one_further start _ before now inbox left number reached request more answer new after first step appended)) runs
+
+-- ---- a run that does not begin
+
+nothing_written : (start : InboxState) (words : List (Option Request)) (before : Option (List ℕ)) → IsCut start words before before
+nothing_written start words before = ([], ([], output_of start words [], refl, appends_none before))
+
+by_memory : (start : InboxState) (words : List (Option Request)) (before : Option (List ℕ)) (result : Result (Unit {0}) RunFault) → IsErrAnd result (λ fault. fault ≡ Memory) → IsEnd start words before before result
+by_memory start words before (Ok done) of = absurd of
+by_memory start words before (Err fault) of = subst (λ f. IsEnd start words before before (Err f)) (sym of) (nothing_written start words before)
+
+pub no_memory : (known : Option (List ℕ)) (start : InboxState) (before : Option (List ℕ)) (result : Result (Unit {0}) RunFault) → IsErrAnd result (λ fault. fault ≡ Memory) → Ends known start before before result
+no_memory None start before result of = tt
+no_memory (Some bytes) start before result of = by_memory start (words_in bytes) before result of
+
+pub no_buffer : (known : Option (List ℕ)) (start : InboxState) (before : Option (List ℕ)) (kind : ErrorKind) (result : Result (Unit {0}) RunFault) → IsErrAnd result (IsFaultOf kind) → Ends known start before before result
+no_buffer None start before kind result of = tt
+no_buffer (Some bytes) start before kind result of = by_result start (words_in bytes) before before kind result of (nothing_written start (words_in bytes) before)

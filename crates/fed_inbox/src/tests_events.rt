@@ -1,6 +1,6 @@
 // Verdicts on events, and which of them are handed on to the rooms.
 use crate::Inbox;
-use fed_event::{Checked, Keys, PduFault, StandIn, Trusting, event_id, seal};
+use fed_event::{StandIn, Trusting, event_id, seal};
 use fed_json::{Json, canonical, read};
 use std::alloc::Global;
 use std::process::Abort;
@@ -29,7 +29,11 @@ fn parts(alloc: Global, room: &str, kind: &str, content: &str) -> Result<Json, F
 
 /// The canonical text of an event with its hash and the signature of a.example.
 fn signed(alloc: Global, room: &str, kind: &str, content: &str) -> Result<String, Fail> {
-    let event = seal(alloc, parts(alloc, room, kind, content)?, &keys_of(alloc, "a.example")?)?;
+    let event = seal(
+        alloc,
+        parts(alloc, room, kind, content)?,
+        &keys_of(alloc, "a.example")?,
+    )?;
     text_of(alloc, event.event().json())
 }
 
@@ -54,7 +58,13 @@ fn send(
     let body = format!(in alloc;
         "{{\"origin\":\"a.example\",\"origin_server_ts\":1,\"pdus\":[{events}]}}"
     )?;
-    let reply = inbox.answer_body(alloc, "a.example", txn, body.as_bytes(), &keys_of(alloc, "b.example")?);
+    let reply = inbox.answer_body(
+        alloc,
+        "a.example",
+        txn,
+        body.as_bytes(),
+        &keys_of(alloc, "b.example")?,
+    );
     assert_eq!(rt; reply.status(), 200);
     assert_eq!(rt; reply.body(), want.as_bytes(), "reply to {txn}");
     Ok(())
@@ -79,7 +89,10 @@ fn a_right_event_is_handed_out_once(rt: HostRuntime) -> Result<(), Fail> {
     let fresh = inbox.fresh();
     assert_eq!(rt; fresh.len(), 1);
     assert_eq!(rt; fresh[0].event().id().as_str(), id.as_str());
-    assert_eq!(rt; text_of(alloc, fresh[0].event().json())?.as_str(), event.as_str());
+    assert_eq!(rt;
+        text_of(alloc, fresh[0].event().json())?.as_str(),
+        event.as_str()
+    );
     assert!(rt; !fresh[0].is_authorised());
     assert!(rt; inbox.fresh().is_empty());
     Ok(())
@@ -100,7 +113,10 @@ fn what_takes_nothing_hands_out_nothing(rt: HostRuntime) -> Result<(), Fail> {
     for origin in ["a.example", "x.example"] {
         let txn = if origin == "a.example" { "2" } else { "3" };
         send(&rt, alloc, &mut inbox, txn, &event, &reply)?;
-        assert_ne!(rt; inbox.answer_body(alloc, origin, "4", b"{", &keys).status(), 200);
+        assert_ne!(rt;
+            inbox.answer_body(alloc, origin, "4", b"{", &keys).status(),
+            200
+        );
         assert!(rt; inbox.fresh().is_empty());
     }
     assert_eq!(rt; inbox.taken("a.example").len(), 3);
@@ -111,7 +127,10 @@ fn what_takes_nothing_hands_out_nothing(rt: HostRuntime) -> Result<(), Fail> {
 fn an_unsigned_event(rt: HostRuntime) -> Result<(), Fail> {
     let alloc = rt.alloc();
     let mut inbox = inbox(alloc)?;
-    let mut event = read(alloc, signed(alloc, "!q:a.example", "m.x", "{}")?.as_bytes())?;
+    let mut event = read(
+        alloc,
+        signed(alloc, "!q:a.example", "m.x", "{}")?.as_bytes(),
+    )?;
     event.put(String::from_str(alloc, "signatures")?, read(alloc, b"{}")?)?;
     let event = text_of(alloc, &event)?;
     // Its room is not known either: the signature is looked at first, and under trusting keys too.
@@ -131,7 +150,11 @@ fn an_unsigned_event(rt: HostRuntime) -> Result<(), Fail> {
 fn an_event_that_another_server_signed(rt: HostRuntime) -> Result<(), Fail> {
     let alloc = rt.alloc();
     let mut inbox = inbox(alloc)?;
-    let text = signed(alloc, "!r:a.example", "m.x", "{}")?.replace(alloc, "@u:a.example", "@u:c.example")?;
+    let text = signed(alloc, "!r:a.example", "m.x", "{}")?.replace(
+        alloc,
+        "@u:a.example",
+        "@u:c.example",
+    )?;
     let want = bad(alloc, &id_of(alloc, &text)?, "bad signature")?;
     send(&rt, alloc, &mut inbox, "1", &text, &want)?;
     assert!(rt; inbox.fresh().is_empty());
@@ -162,7 +185,10 @@ fn a_wrong_content_hash_redacts(rt: HostRuntime) -> Result<(), Fail> {
     assert_eq!(rt; fresh.len(), 1);
     assert_eq!(rt; fresh[0].event().id().as_str(), id.as_str());
     let redacted = event.replace(alloc, "{\"body\":\"x\"}", "{}")?;
-    assert_eq!(rt; text_of(alloc, fresh[0].event().json())?.as_str(), redacted.as_str());
+    assert_eq!(rt;
+        text_of(alloc, fresh[0].event().json())?.as_str(),
+        redacted.as_str()
+    );
     // What is taken is what came.
     assert_eq!(rt; inbox.taken("a.example")[0].as_slice(), changed.as_bytes());
     Ok(())
@@ -183,7 +209,14 @@ fn the_first_of_one_id_decides(rt: HostRuntime) -> Result<(), Fail> {
     assert_eq!(rt; first_inbox.taken("a.example").len(), 3);
     let mut second_inbox = inbox(alloc)?;
     let both = format!(in alloc; "{bare},{event}")?;
-    send(&rt, alloc, &mut second_inbox, "1", &both, &bad(alloc, &id, "bad signature")?)?;
+    send(
+        &rt,
+        alloc,
+        &mut second_inbox,
+        "1",
+        &both,
+        &bad(alloc, &id, "bad signature")?,
+    )?;
     assert!(rt; second_inbox.fresh().is_empty());
     assert_eq!(rt; second_inbox.taken("a.example").len(), 2);
     Ok(())
@@ -198,24 +231,44 @@ fn one_bad_event_refuses_no_other(rt: HostRuntime) -> Result<(), Fail> {
     let body = format!(in alloc;
         "{{\"origin\":\"a.example\",\"origin_server_ts\":1,\"pdus\":[{one},{{}},{two}]}}"
     )?;
-    let reply = inbox.answer_body(alloc, "a.example", "1", body.as_bytes(), &keys_of(alloc, "b.example")?);
+    let reply = inbox.answer_body(
+        alloc,
+        "a.example",
+        "1",
+        body.as_bytes(),
+        &keys_of(alloc, "b.example")?,
+    );
     assert_eq!(rt; reply.status(), 200);
     let fresh = inbox.fresh();
     assert_eq!(rt; fresh.len(), 2);
-    assert_eq!(rt; fresh[0].event().id().as_str(), id_of(alloc, &one)?.as_str());
-    assert_eq!(rt; fresh[1].event().id().as_str(), id_of(alloc, &two)?.as_str());
+    assert_eq!(rt;
+        fresh[0].event().id().as_str(),
+        id_of(alloc, &one)?.as_str()
+    );
+    assert_eq!(rt;
+        fresh[1].event().id().as_str(),
+        id_of(alloc, &two)?.as_str()
+    );
     Ok(())
 }
 
-/// An event of this size, signatures and all.
+/// A signed event of this size, padded where no hash and no signature covers it.
 fn of_size(alloc: Global, size: usize) -> Result<String, Fail> {
-    let short = signed(alloc, "!r:a.example", "m.x", "{\"body\":\"\"}")?;
-    let mut content = String::from_str(alloc, "{\"body\":\"")?;
-    for _ in 0..size.saturating_sub(short.len()) {
-        content.push('x')?;
+    let mut event = read(
+        alloc,
+        signed(alloc, "!r:a.example", "m.x", "{}")?.as_bytes(),
+    )?;
+    let unpadded = text_of(alloc, &event)?.len() + ",\"unsigned\":{\"\":\"\"}".len();
+    let mut unsigned = String::from_str(alloc, "{\"\":\"")?;
+    for _ in unpadded..size {
+        unsigned.push('x')?;
     }
-    content.push_str("\"}")?;
-    signed(alloc, "!r:a.example", "m.x", &content)
+    unsigned.push_str("\"}")?;
+    event.put(
+        String::from_str(alloc, "unsigned")?,
+        read(alloc, unsigned.as_bytes())?,
+    )?;
+    text_of(alloc, &event)
 }
 
 #[test]
@@ -224,18 +277,25 @@ fn the_largest_event(rt: HostRuntime) -> Result<(), Fail> {
     let mut inbox = inbox(alloc)?;
     let event = of_size(alloc, 65_536)?;
     assert_eq!(rt; event.len(), 65_536);
-    send(&rt, alloc, &mut inbox, "1", &event, &good(alloc, &id_of(alloc, &event)?)?)?;
-    // One byte more can't be sealed; it is put into `unsigned`, which no hash and no signature covers.
-    let larger = of_size(alloc, 65_536 - 16)?.replace(alloc, "\"type\":\"m.x\"", "\"type\":\"m.x\",\"unsigned\":{\"\":\"\"}")?;
-    let mut larger = read(alloc, larger.as_bytes())?;
-    let mut text = text_of(alloc, &larger)?;
-    while text.len() < 65_537 {
-        let pad = format!(in alloc; "{{\"\":\"{}\"}}", "x".repeat(alloc, 65_537 - text.len())?)?;
-        larger.put(String::from_str(alloc, "unsigned")?, read(alloc, pad.as_bytes())?)?;
-        text = text_of(alloc, &larger)?;
-    }
-    assert_eq!(rt; text.len(), 65_537);
-    send(&rt, alloc, &mut inbox, "2", &text, &bad(alloc, &id_of(alloc, &text)?, "event too large")?)?;
-    assert_eq!(rt; seal(alloc, parts(alloc, "r", "m.x", "{}")?, &keys_of(alloc, "a.example")?).err().is_some(), true);
+    send(
+        &rt,
+        alloc,
+        &mut inbox,
+        "1",
+        &event,
+        &good(alloc, &id_of(alloc, &event)?)?,
+    )?;
+    assert_eq!(rt; inbox.fresh().len(), 1);
+    let event = of_size(alloc, 65_537)?;
+    assert_eq!(rt; event.len(), 65_537);
+    send(
+        &rt,
+        alloc,
+        &mut inbox,
+        "2",
+        &event,
+        &bad(alloc, &id_of(alloc, &event)?, "event too large")?,
+    )?;
+    assert!(rt; inbox.fresh().is_empty());
     Ok(())
 }
