@@ -40,6 +40,4 @@ pub use laws::{ids_of_redactions, redacted_once, unsigned_changes, what_redactio
 pub use pdu::Pdu;
 pub use redaction::redact;
 pub use signed::signed_text;
-pub use validity::{
-    MAX_AUTH_EVENTS, MAX_DEPTH, MAX_PREV_EVENTS, MAX_SIZE, MAX_TEXT, first_fault,
-};
+pub use validity::{MAX_AUTH_EVENTS, MAX_DEPTH, MAX_PREV_EVENTS, MAX_SIZE, MAX_TEXT, first_fault};

@@ -54,12 +54,7 @@ const ALL: [Field; 11] = [
     Field::Type,
 ];
 
-const MEASURED: [Field; 4] = [
-    Field::RoomId,
-    Field::Sender,
-    Field::StateKey,
-    Field::Type,
-];
+const MEASURED: [Field; 4] = [Field::RoomId, Field::Sender, Field::StateKey, Field::Type];
 
 const COUNTED: [Field; 2] = [Field::AuthEvents, Field::PrevEvents];
 
@@ -113,8 +108,7 @@ fn missing_field(event: &Json) -> Option<Field>
 fn wrong_kind(event: &Json) -> Option<Field>
     ensures { result ≡ find (λ field. fails event.now (PduFault.WrongKind field)) all_fields }
 {
-    ALL
-        .iter()
+    ALL.iter()
         .copied()
         .find(|field| is_wrong_kind(event, *field))
 }

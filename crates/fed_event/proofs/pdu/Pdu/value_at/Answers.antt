@@ -10,7 +10,7 @@ pub returns-clause-kind : goal.returns-clause-kind
 returns-clause-kind c =
     let event = c.args.self.now in
     let is : seen c.in-Some.value ≡ value_at c.args.field event =
-        ap (λ o. unwrap_or (option_map seen o) null) (sym c.in-Some.is) ∙ ap (λ o. unwrap_or o null) c.part.ensures ∙ ap (λ d. value_at c.args.field d) c.json.ensures.value in
+    ap (λ o. unwrap_or (option_map seen o) null) (sym c.in-Some.is) ∙ ap (λ o. unwrap_or o null) c.part.ensures ∙ ap (λ d. value_at c.args.field d) c.json.ensures.value in
     let P : Data → Type 0 = λ d. has_kind c.args.field d ≡ true in
     subst P (sym is) (kind_passed event c.args.field c.json.ensures.passes c.requires)
 
@@ -18,6 +18,6 @@ pub unreachable-requires : goal.unreachable-requires
 unreachable-requires c =
     let event = c.args.self.now in
     let none : is_none (part c.args.field event) ≡ true =
-        ap (λ d. is_none (part c.args.field d)) (sym c.json.ensures.value) ∙ ap is_none (sym c.part.ensures) ∙ ap (λ o. is_none (option_map seen o)) c.in-None.is in
+    ap (λ d. is_none (part c.args.field d)) (sym c.json.ensures.value) ∙ ap is_none (sym c.part.ensures) ∙ ap (λ o. is_none (option_map seen o)) c.in-None.is in
     let some = there_passed event c.args.field c.json.ensures.passes c.requires in
     absurd (cc)
