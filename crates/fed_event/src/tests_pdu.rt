@@ -126,6 +126,71 @@ fn missing_fields(rt: HostRuntime) -> Result<(), Fail> {
     Ok(())
 }
 
+// Each row of these tables is a field, a value of its kind, and one of another.
+#[test]
+fn arrays_of_texts(rt: HostRuntime) -> Result<(), Fail> {
+    let alloc = rt.alloc();
+    for (field, good, bad) in [
+        (Field::AuthEvents, "[]", "{}"),
+        (Field::AuthEvents, "[\"\"]", "[1]"),
+        (Field::AuthEvents, "[\"$a\",\"b\"]", "[\"$a\",null]"),
+        (Field::PrevEvents, "[]", "null"),
+        (Field::PrevEvents, "[\"\"]", "[[\"$a\"]]"),
+        (Field::PrevEvents, "[\"$a\",\"b\"]", "[{},\"$a\"]"),
+    ] {
+        let fault = fault_with(alloc, field.name(), good)?;
+        assert_eq!(rt; fault, None, "{field} {good}");
+        let fault = fault_with(alloc, field.name(), bad)?;
+        assert_eq!(rt; fault, Some(PduFault::WrongKind(field)), "{field} {bad}");
+    }
+    Ok(())
+}
+
+#[test]
+fn objects_and_numbers(rt: HostRuntime) -> Result<(), Fail> {
+    let alloc = rt.alloc();
+    for (field, good, bad) in [
+        (Field::Content, "{}", "[]"),
+        (Field::Content, "{\"a\":1}", "null"),
+        (Field::Hashes, "{}", "\"x\""),
+        (Field::Signatures, "{\"a\":{}}", "[]"),
+        (Field::Depth, "0", "\"1\""),
+        (Field::Depth, "-5", "null"),
+        (Field::Depth, "9007199254740991", "[1]"),
+        (Field::OriginServerTs, "1700000000000", "true"),
+        (Field::OriginServerTs, "-1", "\"0\""),
+    ] {
+        let fault = fault_with(alloc, field.name(), good)?;
+        assert_eq!(rt; fault, None, "{field} {good}");
+        let fault = fault_with(alloc, field.name(), bad)?;
+        assert_eq!(rt; fault, Some(PduFault::WrongKind(field)), "{field} {bad}");
+    }
+    Ok(())
+}
+
+#[test]
+fn texts(rt: HostRuntime) -> Result<(), Fail> {
+    let alloc = rt.alloc();
+    for (field, good, bad) in [
+        (Field::RoomId, "\"!:\"", "\"@r:a\""),
+        (Field::RoomId, "\"!r:\"", "\"!ra\""),
+        (Field::RoomId, "\"!:a:b\"", "\"\""),
+        (Field::Sender, "\"@:\"", "\"!u:a\""),
+        (Field::Sender, "\"@u:\"", "\"@ua\""),
+        (Field::Sender, "\"@:a:b\"", "\"u@:a\""),
+        (Field::Sender, "\"@u:a\"", "1"),
+        (Field::StateKey, "\"\"", "null"),
+        (Field::StateKey, "\"@u\"", "1"),
+        (Field::Type, "\"\"", "{}"),
+    ] {
+        let fault = fault_with(alloc, field.name(), good)?;
+        assert_eq!(rt; fault, None, "{field} {good}");
+        let fault = fault_with(alloc, field.name(), bad)?;
+        assert_eq!(rt; fault, Some(PduFault::WrongKind(field)), "{field} {bad}");
+    }
+    Ok(())
+}
+
 #[test]
 fn lengths(rt: HostRuntime) -> Result<(), Fail> {
     let alloc = rt.alloc();
@@ -194,10 +259,262 @@ fn depths(rt: HostRuntime) -> Result<(), Fail> {
     Ok(())
 }
 
-fn text_at(alloc: Global, part: JsonRef<'_>) -> Result<Vec<u8>, AllocError> {
+// Of two faults the one of the earlier test is given.
+#[test]
+fn order_of_shapes(rt: HostRuntime) -> Result<(), Fail> {
+    let alloc = rt.alloc();
+    let deep = nested(alloc, 101, "", "")?;
+    assert_eq!(rt; fault_of(alloc, deep.as_str()), Some(PduFault::TooDeep));
+    let large = text_of(alloc, "", 65_536)?;
+    assert_eq!(rt;
+        fault_of(alloc, large.as_str()),
+        Some(PduFault::WrongKind(Field::Event))
+    );
+    let mut object = String::from_str(alloc, "{\"auth_events\":")?;
+    object.push_str(large.as_str())?;
+    object.push('}')?;
+    assert_eq!(rt; fault_of(alloc, object.as_str()), Some(PduFault::TooLarge));
+    Ok(())
+}
+
+#[test]
+fn order_of_missing_fields_and_kinds(rt: HostRuntime) -> Result<(), Fail> {
+    let alloc = rt.alloc();
+    assert_eq!(rt;
+        fault_with_both(alloc, ("content", ""), ("auth_events", ""))?,
+        Some(PduFault::Missing(Field::AuthEvents))
+    );
+    assert_eq!(rt;
+        fault_with_both(alloc, ("type", ""), ("signatures", ""))?,
+        Some(PduFault::Missing(Field::Signatures))
+    );
+    assert_eq!(rt;
+        fault_with_both(alloc, ("type", ""), ("depth", "{}"))?,
+        Some(PduFault::Missing(Field::Type))
+    );
+    assert_eq!(rt;
+        fault_with_both(alloc, ("type", "1"), ("auth_events", "1"))?,
+        Some(PduFault::WrongKind(Field::AuthEvents))
+    );
+    assert_eq!(rt;
+        fault_with_both(alloc, ("depth", "\"\""), ("content", "1"))?,
+        Some(PduFault::WrongKind(Field::Content))
+    );
+    assert_eq!(rt;
+        fault_with_both(alloc, ("state_key", "1"), ("type", "1"))?,
+        Some(PduFault::WrongKind(Field::StateKey))
+    );
+    Ok(())
+}
+
+#[test]
+fn order_of_lengths(rt: HostRuntime) -> Result<(), Fail> {
+    let alloc = rt.alloc();
+    let room_id = text_of(alloc, "!:", 256)?;
+    let text = text_of(alloc, "", 256)?;
+    let sender = text_of(alloc, "@:", 256)?;
+    assert_eq!(rt;
+        fault_with_both(alloc, ("type", "1"), ("room_id", room_id.as_str()))?,
+        Some(PduFault::WrongKind(Field::Type))
+    );
+    assert_eq!(rt;
+        fault_with_both(
+            alloc,
+            ("sender", text.as_str()),
+            ("room_id", room_id.as_str())
+        )?,
+        Some(PduFault::WrongKind(Field::Sender))
+    );
+    assert_eq!(rt;
+        fault_with_both(
+            alloc,
+            ("sender", sender.as_str()),
+            ("room_id", room_id.as_str())
+        )?,
+        Some(PduFault::TooLong(Field::RoomId))
+    );
+    assert_eq!(rt;
+        fault_with_both(
+            alloc,
+            ("state_key", text.as_str()),
+            ("sender", sender.as_str())
+        )?,
+        Some(PduFault::TooLong(Field::Sender))
+    );
+    assert_eq!(rt;
+        fault_with_both(alloc, ("type", text.as_str()), ("state_key", text.as_str()))?,
+        Some(PduFault::TooLong(Field::StateKey))
+    );
+    Ok(())
+}
+
+#[test]
+fn order_of_counts(rt: HostRuntime) -> Result<(), Fail> {
+    let alloc = rt.alloc();
+    let text = text_of(alloc, "", 256)?;
+    let auth_events = ids_of(alloc, 11)?;
+    let prev_events = ids_of(alloc, 21)?;
+    assert_eq!(rt;
+        fault_with_both(
+            alloc,
+            ("auth_events", auth_events.as_str()),
+            ("type", text.as_str())
+        )?,
+        Some(PduFault::TooLong(Field::Type))
+    );
+    assert_eq!(rt;
+        fault_with_both(
+            alloc,
+            ("prev_events", prev_events.as_str()),
+            ("auth_events", auth_events.as_str())
+        )?,
+        Some(PduFault::TooMany(Field::AuthEvents))
+    );
+    assert_eq!(rt;
+        fault_with_both(
+            alloc,
+            ("prev_events", prev_events.as_str()),
+            ("auth_events", "[1]")
+        )?,
+        Some(PduFault::WrongKind(Field::AuthEvents))
+    );
+    Ok(())
+}
+
+#[test]
+fn reads(rt: HostRuntime) -> Result<(), Fail> {
+    let alloc = rt.alloc();
+    for (text, fault) in [
+        ("", PduFault::NotJson),
+        ("{", PduFault::NotJson),
+        ("{} {}", PduFault::NotJson),
+        ("1.5", PduFault::NotCanonical),
+        ("{\"depth\":1e2}", PduFault::NotCanonical),
+        ("{\"depth\":-0}", PduFault::NotCanonical),
+        ("[9007199254740992]", PduFault::NotCanonical),
+        ("5", PduFault::WrongKind(Field::Event)),
+        ("[]", PduFault::WrongKind(Field::Event)),
+        ("{}", PduFault::Missing(Field::AuthEvents)),
+        (
+            "{\"auth_events\":null,\"depth\":1}",
+            PduFault::Missing(Field::Content),
+        ),
+    ] {
+        assert_eq!(rt; fault_of(alloc, text), Some(fault), "{text}");
+    }
+    assert!(rt; !is_read(alloc, b"\"\xff\""));
+    let pdu = event(alloc, event_text())?;
+    assert_eq!(rt;
+        canonical(alloc, pdu.json())?.as_slice(),
+        event_text().as_bytes()
+    );
+    Ok(())
+}
+
+#[test]
+fn levels(rt: HostRuntime) -> Result<(), Fail> {
+    let alloc = rt.alloc();
+    for (levels, fault) in [
+        (100, PduFault::WrongKind(Field::Event)),
+        (101, PduFault::TooDeep),
+        (127, PduFault::TooDeep),
+        (128, PduFault::NotJson),
+    ] {
+        let text = nested(alloc, levels, "", "")?;
+        assert_eq!(rt; fault_of(alloc, text.as_str()), Some(fault), "{levels}");
+    }
+    let deep = nested(alloc, 101, "[1.5,", "]")?;
+    assert_eq!(rt;
+        fault_of(alloc, deep.as_str()),
+        Some(PduFault::NotCanonical)
+    );
+    Ok(())
+}
+
+#[test]
+fn ids_in_fields(rt: HostRuntime) -> Result<(), Fail> {
+    let alloc = rt.alloc();
+    let pdu = event(alloc, event_text())?;
+    let mut auth_events = pdu.auth_events();
+    assert_eq!(rt; auth_events.len(), 2);
+    assert_eq!(rt; auth_events.next(), Some("$a"));
+    assert_eq!(rt; auth_events.next(), Some("$b"));
+    assert!(rt; auth_events.is_empty());
+    let prev_events: Vec<&str> = pdu.prev_events().collect(alloc)?;
+    assert_eq!(rt; prev_events.as_slice(), ["$c", "$d", "$e"].as_slice());
+    Ok(())
+}
+
+#[test]
+fn objects_in_fields(rt: HostRuntime) -> Result<(), Fail> {
+    let alloc = rt.alloc();
+    let pdu = event(alloc, event_text())?;
+    assert_eq!(rt;
+        text_at(alloc, pdu.content())?.as_str(),
+        "{\"topic\":\"hi\"}"
+    );
+    assert_eq!(rt;
+        text_at(alloc, pdu.hashes())?.as_str(),
+        "{\"sha256\":\"x\"}"
+    );
+    assert_eq!(rt;
+        text_at(alloc, pdu.signatures())?.as_str(),
+        "{\"a\":{\"ed25519:1\":\"y\"}}"
+    );
+    Ok(())
+}
+
+#[test]
+fn texts_and_numbers_in_fields(rt: HostRuntime) -> Result<(), Fail> {
+    let alloc = rt.alloc();
+    let pdu = event(alloc, event_text())?;
+    assert_eq!(rt; pdu.depth(), 7);
+    assert_eq!(rt; pdu.origin_server_ts(), 1_700_000_000_000);
+    assert_eq!(rt; pdu.room_id(), "!r:a");
+    assert_eq!(rt; pdu.sender(), "@u:a");
+    assert_eq!(rt; pdu.kind(), "m.room.topic");
+    assert_eq!(rt; pdu.state_key(), Some("k"));
+    let message = tested(alloc, changed(alloc, "state_key", "")?)?;
+    assert_eq!(rt; message.state_key(), None);
+    Ok(())
+}
+
+fn text_at(alloc: Global, part: JsonRef<'_>) -> Result<String, Fail> {
     let mut text = Vec::new(alloc);
     part.append_to(alloc, &mut text)?;
-    Ok(text)
+    Ok(String::from_utf8(text)?)
+}
+
+fn tested(alloc: Global, event: Json) -> Result<Pdu, PduFault> {
+    Pdu::of_json(alloc, event)
+}
+
+#[test]
+fn ids(rt: HostRuntime) -> Result<(), Fail> {
+    let alloc = rt.alloc();
+    let pdu = event(alloc, event_text())?;
+    assert_eq!(rt; pdu.id().as_str(), event_id_text());
+    let other = tested(alloc, changed(alloc, "depth", "8")?)?;
+    let worked = "$g45kHmNzqQTytrAiaNEnx5WzAxhhTWVeqo4B-cSr_t0";
+    assert_eq!(rt; other.id().as_str(), worked);
+    assert!(rt; other.id() != pdu.id());
+    assert!(rt; other.id() < pdu.id());
+    Ok(())
+}
+
+#[test]
+fn copies(rt: HostRuntime) -> Result<(), Fail> {
+    let alloc = rt.alloc();
+    let pdu = event(alloc, event_text())?;
+    let id = pdu.id().copy(alloc)?;
+    assert!(rt; id == *pdu.id());
+    let copy = pdu.copy(alloc)?;
+    assert_eq!(rt; copy.id().as_str(), event_id_text());
+    let text = canonical(alloc, copy.json())?;
+    assert_eq!(rt; text.as_slice(), event_text().as_bytes());
+    let text = canonical(alloc, &copy.into_json())?;
+    assert_eq!(rt; text.as_slice(), event_text().as_bytes());
+    Ok(())
 }
 
 // The event with this value in a field, made with its id.
