@@ -21,9 +21,10 @@ signed_part event = leave_out unsigned_keys (redacted event)
 abbrev pub signed_text_of : Data → List ℕ
 signed_text_of event = canonical_text (signed_part event)
 
-abbrev pub reference_hash : Data → List ℕ
-reference_hash event = sha256 (signed_text_of event)
+-- the id of an event with this signed text: `$` and the reference hash, in the URL-safe alphabet of base64, without padding
+abbrev pub id_of_signed : List ℕ → List ℕ
+id_of_signed text = codes "$" ++ encode_of url_safe_no_pad (sha256 text)
 
--- the id as a text: `$` and the hash in the URL-safe alphabet of base64, without padding
+-- the id as a text
 abbrev pub event_id_of : Data → List ℕ
-event_id_of event = codes "$" ++ encode_of url_safe_no_pad (reference_hash event)
+event_id_of event = id_of_signed (signed_text_of event)

@@ -108,10 +108,29 @@ pub fn check_in<K: Keys>(alloc: Global, event: Pdu, keys: &K) -> Result<Checked,
     ensures unsigned { IsErrOf result CheckFault.BadSignature → is_signed_by_sender (K.checks keys.now) event ≡ false }
 {
     let signed = signed_text(alloc, event.json())?;
-    if !is_signed(keys, &event, &signed) {
+    check_signed(alloc, event, &signed, keys)
+}
+
+/// `check_in`, for a caller that has the signed text of the event.
+///
+/// # Errors
+///
+/// Those of `check_in`.
+pub fn check_signed<K: Keys>(
+    alloc: Global,
+    event: Pdu,
+    signed: &[u8],
+    keys: &K,
+) -> Result<Checked, CheckFault>
+    requires { signed.now ≡ signed_text_of event }
+    ensures ok { IfOk result (λ checked. checked ≡ checked_of (K.checks keys.now) event) }
+    ensures signed { OnOk result (is_signed_by_sender (K.checks keys.now) event ≡ true) }
+    ensures unsigned { IsErrOf result CheckFault.BadSignature → is_signed_by_sender (K.checks keys.now) event ≡ false }
+{
+    if !is_signed(keys, &event, signed) {
         return Err(CheckFault::BadSignature);
     }
-    let authorised = is_authorised(keys, &event, &signed);
+    let authorised = is_authorised(keys, &event, signed);
     let event = kept(alloc, event)?;
     Ok(Checked { event, authorised })
 }

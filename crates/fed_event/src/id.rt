@@ -3,7 +3,7 @@ ghost use Rattle.std.specs.Prelude.{◌≡◌, Some, IfOk, string_bytes, bytes_e
 ghost use Rattle.std.specs.Cmp.{partial_equiv_from_equiv};
 ghost use Rattle.std.specs.Cmp.Lexicographic.{slice_cmp, nat_list_eq_equiv, nat_list_cmp_total, texts_po, texts_ties};
 ghost use Rattle.std.specs.Ordering.{nat_cmp};
-ghost use Rattle.fed_event.specs.EventId.{event_id_of};
+ghost use Rattle.fed_event.specs.EventId.{event_id_of, id_of_signed};
 
 use crate::signed::signed_text;
 use base64::engine::general_purpose::URL_SAFE_NO_PAD;
@@ -112,7 +112,14 @@ impl fmt::Debug for EventId {
 pub fn event_id(alloc: Global, event: &Json) -> Result<EventId, NoMemory>
     ensures { IfOk result (λ id. id ≡ event_id_of event.now) }
 {
-    let hash = Sha256::digest(signed_text(alloc, event)?.as_slice());
+    event_id_of_signed(alloc, &signed_text(alloc, event)?)
+}
+
+/// The id of the event whose signed text this is, for a caller that has it.
+pub fn event_id_of_signed(alloc: Global, signed: &[u8]) -> Result<EventId, NoMemory>
+    ensures { IfOk result (λ id. id ≡ id_of_signed signed.now) }
+{
+    let hash = Sha256::digest(signed);
     let mut text = String::from_str(alloc, "$")?;
     URL_SAFE_NO_PAD.encode_string(&hash, &mut text)?;
     Ok(EventId { text })

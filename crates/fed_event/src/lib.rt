@@ -48,12 +48,12 @@ mod tests_pdu;
 mod tests_sealing;
 mod validity;
 
-pub use checked::{CheckFault, Checked, check_in, ids_of_checked};
+pub use checked::{CheckFault, Checked, check_in, check_signed, ids_of_checked};
 pub use event_ids::EventIds;
 pub use fault::PduFault;
 pub use field::Field;
 pub use hash::content_hash;
-pub use id::{EventId, event_id};
+pub use id::{EventId, event_id, event_id_of_signed};
 pub use ids::{domain, is_user_id};
 pub use keys::{Keys, StandIn, Trusting, stand_ins_agree};
 pub use laws::{

@@ -3,35 +3,71 @@ use crate::{
     Field, MAX_AUTH_EVENTS, MAX_DEPTH, MAX_PREV_EVENTS, MAX_SIZE, MAX_TEXT, Pdu, PduFault,
     event_id, first_fault,
 };
-use fed_json::{Json, JsonRef, canonical};
+use fed_json::{Json, JsonFault, JsonRef, canonical};
 use std::alloc::{AllocError, Global};
 use std::test::Fail;
 
-const EVENT: &str =
-    "{\"auth_events\":[\"$a\",\"$b\"],\"content\":{\"topic\":\"hi\"},\"depth\":7,\"hashes\":{\"sha256\":\"x\"},\"origin_server_ts\":1700000000000,\"prev_events\":[\"$c\",\"$d\",\"$e\"],\"room_id\":\"!r:a\",\"sender\":\"@u:a\",\"signatures\":{\"a\":{\"ed25519:1\":\"y\"}},\"state_key\":\"k\",\"type\":\"m.room.topic\"}";
+// An event, in its canonical text.
+fn event_text() -> &'static str {
+    "{\"auth_events\":[\"$a\",\"$b\"],\"content\":{\"topic\":\"hi\"},\"depth\":7,\"hashes\":{\"sha256\":\"x\"},\"origin_server_ts\":1700000000000,\"prev_events\":[\"$c\",\"$d\",\"$e\"],\"room_id\":\"!r:a\",\"sender\":\"@u:a\",\"signatures\":{\"a\":{\"ed25519:1\":\"y\"}},\"state_key\":\"k\",\"type\":\"m.room.topic\"}"
+}
 
-const ID: &str = "$vVUOycQ00pABJQYbwVbSpqoW4JN_riWmGeYlKD8zpME";
+// Its id.
+fn event_id_text() -> &'static str {
+    "$vVUOycQ00pABJQYbwVbSpqoW4JN_riWmGeYlKD8zpME"
+}
 
-// The event with these values in the fields of these names; an empty text takes the field out.
-fn changed(alloc: Global, changes: &[(&str, &str)]) -> Result<Json, Fail> {
-    let mut event = fed_json::read(alloc, EVENT.as_bytes())?;
-    for (name, text) in changes {
-        if text.is_empty() {
-            drop(event.take(name));
-        } else {
-            let value = fed_json::read(alloc, text.as_bytes())?;
-            event.put(String::from_str(alloc, name)?, value)?;
-        }
+fn value(alloc: Global, text: &str) -> Result<Json, JsonFault> {
+    fed_json::read(alloc, text.as_bytes())
+}
+
+fn event(alloc: Global, text: &str) -> Result<Pdu, PduFault> {
+    Pdu::read(alloc, text.as_bytes())
+}
+
+// Puts a value into a field; an empty text takes the field out.
+fn change(alloc: Global, event: &mut Json, name: &str, text: &str) -> Result<(), Fail> {
+    if text.is_empty() {
+        drop(event.take(name));
+        return Ok(());
     }
+    let value = fed_json::read(alloc, text.as_bytes())?;
+    event.put(String::from_str(alloc, name)?, value)?;
+    Ok(())
+}
+
+// The event with this value in the field of this name.
+fn changed(alloc: Global, name: &str, text: &str) -> Result<Json, Fail> {
+    let mut event = value(alloc, event_text())?;
+    change(alloc, &mut event, name, text)?;
     Ok(event)
 }
 
-fn fault_with(alloc: Global, changes: &[(&str, &str)]) -> Result<Option<PduFault>, Fail> {
-    Ok(Pdu::of_json(alloc, changed(alloc, changes)?).err())
+fn fault_with(alloc: Global, name: &str, text: &str) -> Result<Option<PduFault>, Fail> {
+    Ok(fault_in(alloc, changed(alloc, name, text)?))
+}
+
+// The fault of the event with two fields changed.
+fn fault_with_both(
+    alloc: Global,
+    one: (&str, &str),
+    two: (&str, &str),
+) -> Result<Option<PduFault>, Fail> {
+    let mut event = changed(alloc, one.0, one.1)?;
+    change(alloc, &mut event, two.0, two.1)?;
+    Ok(fault_in(alloc, event))
+}
+
+fn fault_in(alloc: Global, event: Json) -> Option<PduFault> {
+    Pdu::of_json(alloc, event).err()
 }
 
 fn fault_of(alloc: Global, text: &str) -> Option<PduFault> {
-    Pdu::read(alloc, text.as_bytes()).err()
+    event(alloc, text).err()
+}
+
+fn is_read(alloc: Global, bytes: &[u8]) -> bool {
+    Pdu::read(alloc, bytes).is_ok()
 }
 
 // A JSON text of so many bytes that begins with these.
@@ -83,87 +119,75 @@ fn missing_fields(rt: HostRuntime) -> Result<(), Fail> {
         Field::Signatures,
         Field::Type,
     ] {
-        let fault = fault_with(alloc, &[(field.name(), "")])?;
+        let fault = fault_with(alloc, field.name(), "")?;
         assert_eq!(rt; fault, Some(PduFault::Missing(field)), "{field}");
     }
-    assert_eq!(rt; fault_with(alloc, &[("state_key", "")])?, None);
+    assert_eq!(rt; fault_with(alloc, "state_key", "")?, None);
     Ok(())
 }
 
-// Each row is a field, values of its kind, and values of another.
+// Each row of these tables is a field, a value of its kind, and one of another.
 #[test]
-fn kinds(rt: HostRuntime) -> Result<(), Fail> {
+fn arrays_of_texts(rt: HostRuntime) -> Result<(), Fail> {
     let alloc = rt.alloc();
     for (field, good, bad) in [
-        (
-            Field::AuthEvents,
-            ["[]", "[\"\"]", "[\"$a\",\"b\"]"],
-            ["{}", "[1]", "[\"$a\",null]"],
-        ),
-        (
-            Field::Content,
-            ["{}", "{\"a\":1}", "{\"\":{}}"],
-            ["[]", "null", "\"{}\""],
-        ),
-        (
-            Field::Depth,
-            ["0", "-5", "9007199254740991"],
-            ["\"1\"", "null", "[1]"],
-        ),
-        (
-            Field::Hashes,
-            ["{}", "{\"sha256\":1}", "{\"a\":[]}"],
-            ["[]", "null", "\"x\""],
-        ),
-        (
-            Field::OriginServerTs,
-            ["0", "-1", "1700000000000"],
-            ["true", "\"0\"", "{}"],
-        ),
-        (
-            Field::PrevEvents,
-            ["[]", "[\"\"]", "[\"$a\",\"b\"]"],
-            ["null", "[[\"$a\"]]", "[{},\"$a\"]"],
-        ),
-        (
-            Field::RoomId,
-            ["\"!:\"", "\"!r:\"", "\"!:a:b\""],
-            ["\"@r:a\"", "\"!ra\"", "\"\""],
-        ),
-        (
-            Field::Sender,
-            ["\"@:\"", "\"@u:\"", "\"@:a:b\""],
-            ["\"!u:a\"", "\"@ua\"", "\"u@:a\""],
-        ),
-        (
-            Field::Signatures,
-            ["{}", "{\"a\":1}", "{\"a\":{}}"],
-            ["[]", "null", "\"x\""],
-        ),
-        (
-            Field::StateKey,
-            ["\"\"", "\"@u:a\"", "\"k\""],
-            ["null", "1", "[]"],
-        ),
-        (
-            Field::Type,
-            ["\"\"", "\"m.x\"", "\"x\""],
-            ["null", "1", "{}"],
-        ),
+        (Field::AuthEvents, "[]", "{}"),
+        (Field::AuthEvents, "[\"\"]", "[1]"),
+        (Field::AuthEvents, "[\"$a\",\"b\"]", "[\"$a\",null]"),
+        (Field::PrevEvents, "[]", "null"),
+        (Field::PrevEvents, "[\"\"]", "[[\"$a\"]]"),
+        (Field::PrevEvents, "[\"$a\",\"b\"]", "[{},\"$a\"]"),
     ] {
-        for text in good {
-            let fault = fault_with(alloc, &[(field.name(), text)])?;
-            assert_eq!(rt; fault, None, "{field} {text}");
-        }
-        for text in bad {
-            let fault = fault_with(alloc, &[(field.name(), text)])?;
-            assert_eq!(rt; fault, Some(PduFault::WrongKind(field)), "{field} {text}");
-        }
+        let fault = fault_with(alloc, field.name(), good)?;
+        assert_eq!(rt; fault, None, "{field} {good}");
+        let fault = fault_with(alloc, field.name(), bad)?;
+        assert_eq!(rt; fault, Some(PduFault::WrongKind(field)), "{field} {bad}");
     }
-    assert_eq!(rt;
-        fault_with(alloc, &[("room_id", "1")])?,
-        Some(PduFault::WrongKind(Field::RoomId))
-    );
+    Ok(())
+}
+
+#[test]
+fn objects_and_numbers(rt: HostRuntime) -> Result<(), Fail> {
+    let alloc = rt.alloc();
+    for (field, good, bad) in [
+        (Field::Content, "{}", "[]"),
+        (Field::Content, "{\"a\":1}", "null"),
+        (Field::Hashes, "{}", "\"x\""),
+        (Field::Signatures, "{\"a\":{}}", "[]"),
+        (Field::Depth, "0", "\"1\""),
+        (Field::Depth, "-5", "null"),
+        (Field::Depth, "9007199254740991", "[1]"),
+        (Field::OriginServerTs, "1700000000000", "true"),
+        (Field::OriginServerTs, "-1", "\"0\""),
+    ] {
+        let fault = fault_with(alloc, field.name(), good)?;
+        assert_eq!(rt; fault, None, "{field} {good}");
+        let fault = fault_with(alloc, field.name(), bad)?;
+        assert_eq!(rt; fault, Some(PduFault::WrongKind(field)), "{field} {bad}");
+    }
+    Ok(())
+}
+
+#[test]
+fn texts(rt: HostRuntime) -> Result<(), Fail> {
+    let alloc = rt.alloc();
+    for (field, good, bad) in [
+        (Field::RoomId, "\"!:\"", "\"@r:a\""),
+        (Field::RoomId, "\"!r:\"", "\"!ra\""),
+        (Field::RoomId, "\"!:a:b\"", "\"\""),
+        (Field::Sender, "\"@:\"", "\"!u:a\""),
+        (Field::Sender, "\"@u:\"", "\"@ua\""),
+        (Field::Sender, "\"@:a:b\"", "\"u@:a\""),
+        (Field::Sender, "\"@u:a\"", "1"),
+        (Field::StateKey, "\"\"", "null"),
+        (Field::StateKey, "\"@u\"", "1"),
+        (Field::Type, "\"\"", "{}"),
+    ] {
+        let fault = fault_with(alloc, field.name(), good)?;
+        assert_eq!(rt; fault, None, "{field} {good}");
+        let fault = fault_with(alloc, field.name(), bad)?;
+        assert_eq!(rt; fault, Some(PduFault::WrongKind(field)), "{field} {bad}");
+    }
     Ok(())
 }
 
@@ -177,10 +201,10 @@ fn lengths(rt: HostRuntime) -> Result<(), Fail> {
         (Field::Type, "m."),
     ] {
         let longest = text_of(alloc, beginning, 255)?;
-        let fault = fault_with(alloc, &[(field.name(), longest.as_str())])?;
+        let fault = fault_with(alloc, field.name(), longest.as_str())?;
         assert_eq!(rt; fault, None, "{field}");
         let longer = text_of(alloc, beginning, 256)?;
-        let fault = fault_with(alloc, &[(field.name(), longer.as_str())])?;
+        let fault = fault_with(alloc, field.name(), longer.as_str())?;
         assert_eq!(rt; fault, Some(PduFault::TooLong(field)), "{field}");
     }
     assert_eq!(rt; MAX_TEXT, 255);
@@ -192,10 +216,10 @@ fn counts(rt: HostRuntime) -> Result<(), Fail> {
     let alloc = rt.alloc();
     for (field, most) in [(Field::AuthEvents, 10), (Field::PrevEvents, 20)] {
         let all = ids_of(alloc, most)?;
-        let fault = fault_with(alloc, &[(field.name(), all.as_str())])?;
+        let fault = fault_with(alloc, field.name(), all.as_str())?;
         assert_eq!(rt; fault, None, "{field}");
         let more = ids_of(alloc, most + 1)?;
-        let fault = fault_with(alloc, &[(field.name(), more.as_str())])?;
+        let fault = fault_with(alloc, field.name(), more.as_str())?;
         assert_eq!(rt; fault, Some(PduFault::TooMany(field)), "{field}");
     }
     assert_eq!(rt; MAX_AUTH_EVENTS, 10);
@@ -207,17 +231,17 @@ fn counts(rt: HostRuntime) -> Result<(), Fail> {
 #[test]
 fn sizes(rt: HostRuntime) -> Result<(), Fail> {
     let alloc = rt.alloc();
-    let rest = EVENT.len();
+    let rest = event_text().len();
     for (bytes, fault) in [(65_536, None), (65_537, Some(PduFault::TooLarge))] {
         let mut signatures = String::from_str(alloc, "{\"a\":{\"ed25519:1\":\"y")?;
         for _ in rest..bytes {
             signatures.push('x')?;
         }
         signatures.push_str("\"}}")?;
-        let event = changed(alloc, &[("signatures", signatures.as_str())])?;
+        let event = changed(alloc, "signatures", signatures.as_str())?;
         assert_eq!(rt; canonical(alloc, &event)?.len(), bytes);
         assert_eq!(rt; first_fault(&event, canonical(alloc, &event)?.len()), fault);
-        assert_eq!(rt; Pdu::of_json(alloc, event).err(), fault);
+        assert_eq!(rt; fault_in(alloc, event), fault);
     }
     assert_eq!(rt; MAX_SIZE, 65_536);
     Ok(())
@@ -229,7 +253,7 @@ fn depths(rt: HostRuntime) -> Result<(), Fail> {
     let alloc = rt.alloc();
     for (levels, fault) in [(98, None), (99, Some(PduFault::TooDeep))] {
         let content = nested(alloc, levels, "{\"a\":", "}")?;
-        assert_eq!(rt; fault_with(alloc, &[("content", content.as_str())])?, fault);
+        assert_eq!(rt; fault_with(alloc, "content", content.as_str())?, fault);
     }
     assert_eq!(rt; MAX_DEPTH, 100);
     Ok(())
@@ -254,89 +278,106 @@ fn order_of_shapes(rt: HostRuntime) -> Result<(), Fail> {
 }
 
 #[test]
-fn order_of_fields(rt: HostRuntime) -> Result<(), Fail> {
+fn order_of_missing_fields_and_kinds(rt: HostRuntime) -> Result<(), Fail> {
+    let alloc = rt.alloc();
+    assert_eq!(rt;
+        fault_with_both(alloc, ("content", ""), ("auth_events", ""))?,
+        Some(PduFault::Missing(Field::AuthEvents))
+    );
+    assert_eq!(rt;
+        fault_with_both(alloc, ("type", ""), ("signatures", ""))?,
+        Some(PduFault::Missing(Field::Signatures))
+    );
+    assert_eq!(rt;
+        fault_with_both(alloc, ("type", ""), ("depth", "{}"))?,
+        Some(PduFault::Missing(Field::Type))
+    );
+    assert_eq!(rt;
+        fault_with_both(alloc, ("type", "1"), ("auth_events", "1"))?,
+        Some(PduFault::WrongKind(Field::AuthEvents))
+    );
+    assert_eq!(rt;
+        fault_with_both(alloc, ("depth", "\"\""), ("content", "1"))?,
+        Some(PduFault::WrongKind(Field::Content))
+    );
+    assert_eq!(rt;
+        fault_with_both(alloc, ("state_key", "1"), ("type", "1"))?,
+        Some(PduFault::WrongKind(Field::StateKey))
+    );
+    Ok(())
+}
+
+#[test]
+fn order_of_lengths(rt: HostRuntime) -> Result<(), Fail> {
     let alloc = rt.alloc();
     let room_id = text_of(alloc, "!:", 256)?;
+    let text = text_of(alloc, "", 256)?;
     let sender = text_of(alloc, "@:", 256)?;
+    assert_eq!(rt;
+        fault_with_both(alloc, ("type", "1"), ("room_id", room_id.as_str()))?,
+        Some(PduFault::WrongKind(Field::Type))
+    );
+    assert_eq!(rt;
+        fault_with_both(
+            alloc,
+            ("sender", text.as_str()),
+            ("room_id", room_id.as_str())
+        )?,
+        Some(PduFault::WrongKind(Field::Sender))
+    );
+    assert_eq!(rt;
+        fault_with_both(
+            alloc,
+            ("sender", sender.as_str()),
+            ("room_id", room_id.as_str())
+        )?,
+        Some(PduFault::TooLong(Field::RoomId))
+    );
+    assert_eq!(rt;
+        fault_with_both(
+            alloc,
+            ("state_key", text.as_str()),
+            ("sender", sender.as_str())
+        )?,
+        Some(PduFault::TooLong(Field::Sender))
+    );
+    assert_eq!(rt;
+        fault_with_both(alloc, ("type", text.as_str()), ("state_key", text.as_str()))?,
+        Some(PduFault::TooLong(Field::StateKey))
+    );
+    Ok(())
+}
+
+#[test]
+fn order_of_counts(rt: HostRuntime) -> Result<(), Fail> {
+    let alloc = rt.alloc();
     let text = text_of(alloc, "", 256)?;
     let auth_events = ids_of(alloc, 11)?;
     let prev_events = ids_of(alloc, 21)?;
-    let (room_id, sender, text) = (room_id.as_str(), sender.as_str(), text.as_str());
-    let (auth_events, prev_events) = (auth_events.as_str(), prev_events.as_str());
-    for (one, two, fault) in [
-        (
-            ("content", ""),
-            ("auth_events", ""),
-            PduFault::Missing(Field::AuthEvents),
-        ),
-        (
-            ("type", ""),
-            ("signatures", ""),
-            PduFault::Missing(Field::Signatures),
-        ),
-        (
-            ("type", ""),
-            ("depth", "{}"),
-            PduFault::Missing(Field::Type),
-        ),
-        (
-            ("type", "1"),
-            ("auth_events", "1"),
-            PduFault::WrongKind(Field::AuthEvents),
-        ),
-        (
-            ("depth", "\"\""),
-            ("content", "1"),
-            PduFault::WrongKind(Field::Content),
-        ),
-        (
-            ("state_key", "1"),
-            ("type", "1"),
-            PduFault::WrongKind(Field::StateKey),
-        ),
-        (
-            ("type", "1"),
-            ("room_id", room_id),
-            PduFault::WrongKind(Field::Type),
-        ),
-        (
-            ("sender", text),
-            ("room_id", room_id),
-            PduFault::WrongKind(Field::Sender),
-        ),
-        (
-            ("sender", sender),
-            ("room_id", room_id),
-            PduFault::TooLong(Field::RoomId),
-        ),
-        (
-            ("state_key", text),
-            ("sender", sender),
-            PduFault::TooLong(Field::Sender),
-        ),
-        (
-            ("type", text),
-            ("state_key", text),
-            PduFault::TooLong(Field::StateKey),
-        ),
-        (
-            ("auth_events", auth_events),
-            ("type", text),
-            PduFault::TooLong(Field::Type),
-        ),
-        (
-            ("prev_events", prev_events),
-            ("auth_events", auth_events),
-            PduFault::TooMany(Field::AuthEvents),
-        ),
-        (
-            ("prev_events", prev_events),
-            ("auth_events", "[1]"),
-            PduFault::WrongKind(Field::AuthEvents),
-        ),
-    ] {
-        assert_eq!(rt; fault_with(alloc, &[one, two])?, Some(fault), "{one:?}");
-    }
+    assert_eq!(rt;
+        fault_with_both(
+            alloc,
+            ("auth_events", auth_events.as_str()),
+            ("type", text.as_str())
+        )?,
+        Some(PduFault::TooLong(Field::Type))
+    );
+    assert_eq!(rt;
+        fault_with_both(
+            alloc,
+            ("prev_events", prev_events.as_str()),
+            ("auth_events", auth_events.as_str())
+        )?,
+        Some(PduFault::TooMany(Field::AuthEvents))
+    );
+    assert_eq!(rt;
+        fault_with_both(
+            alloc,
+            ("prev_events", prev_events.as_str()),
+            ("auth_events", "[1]")
+        )?,
+        Some(PduFault::WrongKind(Field::AuthEvents))
+    );
     Ok(())
 }
 
@@ -361,13 +402,25 @@ fn reads(rt: HostRuntime) -> Result<(), Fail> {
     ] {
         assert_eq!(rt; fault_of(alloc, text), Some(fault), "{text}");
     }
-    for (levels, inside, fault) in [
-        (100, "", PduFault::WrongKind(Field::Event)),
-        (101, "", PduFault::TooDeep),
-        (127, "", PduFault::TooDeep),
-        (128, "", PduFault::NotJson),
+    assert!(rt; !is_read(alloc, b"\"\xff\""));
+    let pdu = event(alloc, event_text())?;
+    assert_eq!(rt;
+        canonical(alloc, pdu.json())?.as_slice(),
+        event_text().as_bytes()
+    );
+    Ok(())
+}
+
+#[test]
+fn levels(rt: HostRuntime) -> Result<(), Fail> {
+    let alloc = rt.alloc();
+    for (levels, fault) in [
+        (100, PduFault::WrongKind(Field::Event)),
+        (101, PduFault::TooDeep),
+        (127, PduFault::TooDeep),
+        (128, PduFault::NotJson),
     ] {
-        let text = nested(alloc, levels, inside, "")?;
+        let text = nested(alloc, levels, "", "")?;
         assert_eq!(rt; fault_of(alloc, text.as_str()), Some(fault), "{levels}");
     }
     let deep = nested(alloc, 101, "[1.5,", "]")?;
@@ -375,42 +428,62 @@ fn reads(rt: HostRuntime) -> Result<(), Fail> {
         fault_of(alloc, deep.as_str()),
         Some(PduFault::NotCanonical)
     );
-    assert_eq!(rt;
-        Pdu::read(alloc, b"\"\xff\"").err(),
-        Some(PduFault::NotJson)
-    );
-    let pdu = Pdu::read(alloc, EVENT.as_bytes())?;
-    assert_eq!(rt; canonical(alloc, pdu.json())?.as_slice(), EVENT.as_bytes());
     Ok(())
 }
 
 #[test]
-fn fields(rt: HostRuntime) -> Result<(), Fail> {
+fn ids_in_fields(rt: HostRuntime) -> Result<(), Fail> {
     let alloc = rt.alloc();
-    let pdu = Pdu::read(alloc, EVENT.as_bytes())?;
+    let pdu = event(alloc, event_text())?;
     let mut auth_events = pdu.auth_events();
     assert_eq!(rt; auth_events.len(), 2);
     assert_eq!(rt; auth_events.next(), Some("$a"));
     assert_eq!(rt; auth_events.next(), Some("$b"));
     assert!(rt; auth_events.is_empty());
-    assert_eq!(rt; auth_events.next(), None);
-    let prev_events = pdu.prev_events();
-    let prev_events: Vec<&str> = prev_events.collect(alloc)?;
+    let prev_events: Vec<&str> = pdu.prev_events().collect(alloc)?;
     assert_eq!(rt; prev_events.as_slice(), ["$c", "$d", "$e"].as_slice());
-    for (part, text) in [
-        (pdu.content(), "{\"topic\":\"hi\"}"),
-        (pdu.hashes(), "{\"sha256\":\"x\"}"),
-        (pdu.signatures(), "{\"a\":{\"ed25519:1\":\"y\"}}"),
-    ] {
-        assert_eq!(rt; text_at(alloc, part)?.as_slice(), text.as_bytes());
-    }
+    Ok(())
+}
+
+fn content_text(alloc: Global, pdu: &Pdu) -> Result<Vec<u8>, AllocError> {
+    text_at(alloc, pdu.content())
+}
+
+fn hashes_text(alloc: Global, pdu: &Pdu) -> Result<Vec<u8>, AllocError> {
+    text_at(alloc, pdu.hashes())
+}
+
+fn signatures_text(alloc: Global, pdu: &Pdu) -> Result<Vec<u8>, AllocError> {
+    text_at(alloc, pdu.signatures())
+}
+
+#[test]
+fn objects_in_fields(rt: HostRuntime) -> Result<(), Fail> {
+    let alloc = rt.alloc();
+    let pdu = event(alloc, event_text())?;
+    let text = content_text(alloc, &pdu)?;
+    assert_eq!(rt; text.as_slice(), b"{\"topic\":\"hi\"}".as_slice());
+    let text = hashes_text(alloc, &pdu)?;
+    assert_eq!(rt; text.as_slice(), b"{\"sha256\":\"x\"}".as_slice());
+    let text = signatures_text(alloc, &pdu)?;
+    assert_eq!(rt;
+        text.as_slice(),
+        b"{\"a\":{\"ed25519:1\":\"y\"}}".as_slice()
+    );
+    Ok(())
+}
+
+#[test]
+fn texts_and_numbers_in_fields(rt: HostRuntime) -> Result<(), Fail> {
+    let alloc = rt.alloc();
+    let pdu = event(alloc, event_text())?;
     assert_eq!(rt; pdu.depth(), 7);
     assert_eq!(rt; pdu.origin_server_ts(), 1_700_000_000_000);
     assert_eq!(rt; pdu.room_id(), "!r:a");
     assert_eq!(rt; pdu.sender(), "@u:a");
-    assert_eq!(rt; pdu.state_key(), Some("k"));
     assert_eq!(rt; pdu.kind(), "m.room.topic");
-    let message = Pdu::of_json(alloc, changed(alloc, &[("state_key", "")])?)?;
+    assert_eq!(rt; pdu.state_key(), Some("k"));
+    let message = tested(alloc, changed(alloc, "state_key", "")?)?;
     assert_eq!(rt; message.state_key(), None);
     Ok(())
 }
@@ -421,46 +494,64 @@ fn text_at(alloc: Global, part: JsonRef<'_>) -> Result<Vec<u8>, AllocError> {
     Ok(text)
 }
 
+fn tested(alloc: Global, event: Json) -> Result<Pdu, PduFault> {
+    Pdu::of_json(alloc, event)
+}
+
 #[test]
 fn ids(rt: HostRuntime) -> Result<(), Fail> {
     let alloc = rt.alloc();
-    let pdu = Pdu::read(alloc, EVENT.as_bytes())?;
-    assert_eq!(rt; pdu.id().as_str(), ID);
-    let copy = pdu.copy(alloc)?;
-    assert_eq!(rt; copy.id().as_str(), ID);
-    assert!(rt; copy.id() == pdu.id());
-    assert_eq!(rt; copy.id().copy(alloc)?.into_string().as_str(), ID);
-    let other = Pdu::of_json(alloc, changed(alloc, &[("depth", "8")])?)?;
-    assert_eq!(rt;
-        other.id().as_str(),
-        "$g45kHmNzqQTytrAiaNEnx5WzAxhhTWVeqo4B-cSr_t0"
-    );
+    let pdu = event(alloc, event_text())?;
+    assert_eq!(rt; pdu.id().as_str(), event_id_text());
+    let other = tested(alloc, changed(alloc, "depth", "8")?)?;
+    let worked = "$g45kHmNzqQTytrAiaNEnx5WzAxhhTWVeqo4B-cSr_t0";
+    assert_eq!(rt; other.id().as_str(), worked);
     assert!(rt; other.id() != pdu.id());
     assert!(rt; other.id() < pdu.id());
-    assert_eq!(rt;
-        canonical(alloc, &copy.into_json())?.as_slice(),
-        EVENT.as_bytes()
-    );
     Ok(())
+}
+
+fn id_text(alloc: Global, pdu: &Pdu) -> Result<String, Fail> {
+    let id = pdu.id().copy(alloc)?;
+    Ok(id.into_string())
+}
+
+fn copied(alloc: Global, pdu: &Pdu) -> Result<Pdu, Fail> {
+    Ok(pdu.copy(alloc)?)
+}
+
+fn json_text(alloc: Global, pdu: Pdu) -> Result<Vec<u8>, Fail> {
+    Ok(canonical(alloc, &pdu.into_json())?)
+}
+
+#[test]
+fn copies(rt: HostRuntime) -> Result<(), Fail> {
+    let alloc = rt.alloc();
+    let pdu = event(alloc, event_text())?;
+    let copy = copied(alloc, &pdu)?;
+    let id = id_text(alloc, &copy)?;
+    assert_eq!(rt; id.as_str(), event_id_text());
+    let text = json_text(alloc, copy)?;
+    assert_eq!(rt; text.len(), event_text().len());
+    Ok(())
+}
+
+// The event with this value in a field, made with its id.
+fn made(alloc: Global, name: &str, text: &str) -> Result<Result<Pdu, PduFault>, Fail> {
+    let event = changed(alloc, name, text)?;
+    let size = canonical(alloc, &event)?.len();
+    let id = event_id(alloc, &event)?;
+    Ok(Pdu::with_id(event, size, id))
 }
 
 #[test]
 fn with_an_id(rt: HostRuntime) -> Result<(), Fail> {
     let alloc = rt.alloc();
-    for (changes, fault) in [
-        (("depth", "7"), None),
-        (("type", ""), Some(PduFault::Missing(Field::Type))),
-    ] {
-        let event = changed(alloc, &[changes])?;
-        let size = canonical(alloc, &event)?.len();
-        let id = event_id(alloc, &event)?;
-        match Pdu::with_id(event, size, id) {
-            Ok(pdu) => {
-                assert_eq!(rt; fault, None);
-                assert_eq!(rt; pdu.id().as_str(), ID);
-            }
-            Err(found) => assert_eq!(rt; Some(found), fault),
-        }
-    }
+    let pdu = made(alloc, "depth", "7")??;
+    assert_eq!(rt; pdu.id().as_str(), event_id_text());
+    assert_eq!(rt;
+        made(alloc, "type", "")?.err(),
+        Some(PduFault::Missing(Field::Type))
+    );
     Ok(())
 }

@@ -1,7 +1,7 @@
 // The check on receipt, and sealing. Hashes and signatures were computed elsewhere.
 use crate::{
-    CheckFault, Checked, Field, Keys, Pdu, PduFault, StandIn, Trusting, check_in, event_id,
-    ids_of_checked, is_sent_by, seal, what_is_signed,
+    CheckFault, Checked, EventId, Field, Keys, Pdu, PduFault, StandIn, Trusting, check_in,
+    event_id, ids_of_checked, is_sent_by, seal, what_is_signed,
 };
 use fed_json::{Json, JsonFault, canonical, read_within};
 use std::alloc::{AllocError, Global};
@@ -45,57 +45,69 @@ fn stand_in(alloc: Global, own: &str) -> Result<StandIn, AllocError> {
     Ok(StandIn::new(String::from_str(alloc, own)?))
 }
 
-// What is kept of an event, or why it is refused.
-fn checked<K: Keys>(
-    alloc: Global,
-    keys: &K,
-    text: &str,
-) -> Result<Result<Checked, CheckFault>, Fail> {
-    Ok(check_in(alloc, Pdu::of_json(alloc, value(alloc, text)?)?, keys))
+// What is kept of an event.
+fn kept<K: Keys>(alloc: Global, keys: &K, text: &str) -> Result<Checked, Fail> {
+    let event = Pdu::of_json(alloc, value(alloc, text)?)?;
+    Ok(check_in(alloc, event, keys)?)
 }
 
-fn text_of(alloc: Global, event: &Json) -> Result<Vec<u8>, AllocError> {
-    canonical(alloc, event)
+// Its text.
+fn kept_text<K: Keys>(alloc: Global, keys: &K, text: &str) -> Result<Vec<u8>, Fail> {
+    let checked = kept(alloc, keys, text)?.copy(alloc)?;
+    Ok(canonical(alloc, checked.event().json())?)
 }
 
-// What is sealed of the parts, or why it is no event, where they are of the own server.
-fn sealed<K: Keys>(
-    alloc: Global,
-    keys: &K,
-    text: &str,
-) -> Result<Option<Result<Checked, PduFault>>, Fail> {
-    let parts = value(alloc, text)?;
+// Why an event is refused.
+fn refusal<K: Keys>(alloc: Global, keys: &K, text: &str) -> Result<Option<CheckFault>, Fail> {
+    let event = Pdu::of_json(alloc, value(alloc, text)?)?;
+    Ok(check_in(alloc, event, keys).err())
+}
+
+// What is sealed of the parts, which are of the own server.
+fn sealed<K: Keys>(alloc: Global, keys: &K, text: &str) -> Result<Checked, PduFault> {
+    let Ok(parts) = value(alloc, text) else {
+        return Err(PduFault::NotJson);
+    };
     if is_sent_by(keys.own(), &parts) {
-        Ok(Some(seal(alloc, parts, keys)))
+        seal(alloc, parts, keys)
     } else {
-        Ok(None)
+        Err(PduFault::WrongKind(Field::Sender))
     }
+}
+
+fn sealed_text<K: Keys>(alloc: Global, keys: &K, text: &str) -> Result<Vec<u8>, Fail> {
+    let checked = sealed(alloc, keys, text)?;
+    Ok(canonical(alloc, checked.event().json())?)
+}
+
+fn id_of(alloc: Global, text: &str) -> Result<EventId, Fail> {
+    Ok(event_id(alloc, &value(alloc, text)?)?)
 }
 
 #[test]
 fn kept_or_redacted(rt: HostRuntime) -> Result<(), Fail> {
-    ids_of_checked();
-    what_is_signed();
     let alloc = rt.alloc();
     let keys = stand_in(alloc, "b")?;
-    for (text, kept) in [(SEALED, SEALED), (ALTERED, REDACTED), (REDACTED, REDACTED)] {
-        let checked = checked(alloc, &keys, text)??;
-        let left = text_of(alloc, checked.event().json())?;
-        assert_eq!(rt; left.as_slice(), kept.as_bytes(), "{text}");
-        assert!(rt; !checked.is_authorised());
-        let id = event_id(alloc, &value(alloc, text)?)?;
-        assert_eq!(rt;
-            event_id(alloc, checked.event().json())?.as_str(),
-            id.as_str()
-        );
-        let copy = checked.copy(alloc)?;
-        let copied = text_of(alloc, copy.event().json())?;
-        assert_eq!(rt; copied.as_slice(), kept.as_bytes());
+    for (text, left) in [(SEALED, SEALED), (ALTERED, REDACTED), (REDACTED, REDACTED)] {
+        let kept = kept_text(alloc, &keys, text)?;
+        assert_eq!(rt; kept.as_slice(), left.as_bytes(), "{text}");
     }
     Ok(())
 }
 
-// Each row is the event that came, as a part of one that is signed in the place of another.
+#[test]
+fn ids_of_kept(rt: HostRuntime) -> Result<(), Fail> {
+    ids_of_checked();
+    what_is_signed();
+    let alloc = rt.alloc();
+    let id = id_of(alloc, SEALED)?;
+    for (text, same) in [(ALTERED, true), (REDACTED, true), (PARTS, false)] {
+        assert_eq!(rt; id_of(alloc, text)?.as_str() == id.as_str(), same, "{text}");
+    }
+    Ok(())
+}
+
+// Each row is a part of the sealed event, and what came in its place.
 #[test]
 fn refused(rt: HostRuntime) -> Result<(), Fail> {
     let alloc = rt.alloc();
@@ -113,8 +125,11 @@ fn refused(rt: HostRuntime) -> Result<(), Fail> {
             return Err(Fail::from("no such part"));
         };
         let text = format!(in alloc; "{before}{to}{after}")?;
-        let fault = checked(alloc, &keys, text.as_str())?.err();
-        assert_eq!(rt; fault, Some(CheckFault::BadSignature), "{to}");
+        assert_eq!(rt;
+            refusal(alloc, &keys, text.as_str())?,
+            Some(CheckFault::BadSignature),
+            "{to}"
+        );
     }
     Ok(())
 }
@@ -126,7 +141,7 @@ fn authorised_joins(rt: HostRuntime) -> Result<(), Fail> {
     let keys = stand_in(alloc, "a")?;
     for (signature, authorised) in [(SIGNATURE_OF_C, true), ("", false), ("AAAA", false)] {
         let text = format!(in alloc; "{JOIN}{signature}\"}}}}}}")?;
-        let checked = checked(alloc, &keys, text.as_str())??;
+        let checked = kept(alloc, &keys, text.as_str())?;
         assert_eq!(rt; checked.is_authorised(), authorised, "{signature}");
     }
     Ok(())
@@ -137,24 +152,20 @@ fn sealed_events(rt: HostRuntime) -> Result<(), Fail> {
     let alloc = rt.alloc();
     let own = stand_in(alloc, "a")?;
     for text in [PARTS, OTHER_PARTS] {
-        let Some(event) = sealed(alloc, &own, text)? else {
-            return Err(Fail::from("of another server"));
-        };
-        let event = event?;
-        let made = text_of(alloc, event.event().json())?;
-        assert_eq!(rt; made.as_slice(), SEALED.as_bytes());
-        let again = check_in(alloc, event.event().copy(alloc)?, &stand_in(alloc, "b")?)?;
-        let kept = text_of(alloc, again.event().json())?;
-        assert_eq!(rt; kept.as_slice(), SEALED.as_bytes());
-        assert!(rt; sealed(alloc, &stand_in(alloc, "b")?, text)?.is_none());
+        let made = sealed_text(alloc, &own, text)?;
+        assert_eq!(rt; made.as_slice(), SEALED.as_bytes(), "{text}");
     }
-    let trusting = Trusting::new(String::from_str(alloc, "a")?);
-    let Some(event) = sealed(alloc, &trusting, PARTS)? else {
-        return Err(Fail::from("of another server"));
-    };
-    let made = text_of(alloc, event?.event().json())?;
+    Ok(())
+}
+
+#[test]
+fn trusted_events(rt: HostRuntime) -> Result<(), Fail> {
+    let alloc = rt.alloc();
+    let own = Trusting::new(String::from_str(alloc, "a")?);
+    let made = sealed_text(alloc, &own, PARTS)?;
     assert_eq!(rt; made.as_slice(), TRUSTED.as_bytes());
-    assert!(rt; checked(alloc, &trusting, ALTERED)?.is_ok());
+    let kept = kept_text(alloc, &own, SEALED)?;
+    assert_eq!(rt; kept.as_slice(), SEALED.as_bytes());
     Ok(())
 }
 
@@ -179,10 +190,7 @@ fn sealing_faults(rt: HostRuntime) -> Result<(), Fail> {
             PduFault::WrongKind(Field::Content),
         ),
     ] {
-        let Some(event) = sealed(alloc, &own, text)? else {
-            return Err(Fail::from("of another server"));
-        };
-        assert_eq!(rt; event.err(), Some(fault), "{text}");
+        assert_eq!(rt; sealed(alloc, &own, text).err(), Some(fault), "{text}");
     }
     Ok(())
 }
