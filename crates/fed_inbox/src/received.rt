@@ -6,7 +6,7 @@ ghost use Rattle.std.specs.FinMap as finite;
 
 use crate::rooms::Rooms;
 use crate::verdict::{Fault, judged};
-use fed_event::{Checked, Keys, event_id};
+use fed_event::{Checked, Keys, event_id_of_signed, signed_text};
 use fed_json::{Json, NoMemory};
 use fed_txn::Verdicts;
 use std::alloc::Global;
@@ -45,12 +45,13 @@ impl Received {
         if !element.is_object() {
             return Ok(());
         }
-        let id = event_id(alloc, &element)?;
+        let signed = signed_text(alloc, &element)?;
+        let id = event_id_of_signed(alloc, &signed)?;
         if self.verdicts.contains(id.as_str()) {
             return Ok(());
         }
         let key = String::from_str(alloc, id.as_str())?;
-        match judged(alloc, element, size, id, rooms, keys) {
+        match judged(alloc, element, size, &signed, id, rooms, keys) {
             Ok(event) => {
                 self.verdicts.insert(key, None)?;
                 self.fresh.push(event)?;

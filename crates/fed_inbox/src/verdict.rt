@@ -1,14 +1,14 @@
 // What an event comes to that a transaction brings.
 ghost use Rattle.std.specs.Prelude.{◌≡◌, ◌≢◌, Some, None, length, IfOk, IfErr, string_bytes};
 ghost use Rattle.fed_json.specs.CanonicalText.{canonical_text};
-ghost use Rattle.fed_event.specs.EventId.{event_id_of};
+ghost use Rattle.fed_event.specs.EventId.{event_id_of, signed_text_of};
 ghost use Rattle.fed_event.specs.Checked.{checked_of};
 ghost use Rattle.fed_inbox.specs.declared.verdict.Fault.TheVariants.{Memory};
 ghost use Rattle.fed_inbox.specs.FaultText.{fault_text};
 ghost use Rattle.fed_inbox.specs.Taking.{verdict_on};
 
 use crate::rooms::Rooms;
-use fed_event::{CheckFault, Checked, EventId, Keys, Pdu, PduFault, check_in};
+use fed_event::{CheckFault, Checked, EventId, Keys, Pdu, PduFault, check_signed};
 use fed_json::{Json, NoMemory};
 use std::alloc::Global;
 
@@ -61,17 +61,20 @@ impl Fault {
     }
 }
 
-/// The checked event that a value is whose canonical text has `size` bytes and whose id is `id`, or its first fault: it is no
+/// The checked event that a value is, whose canonical text has `size` bytes, whose signed text is `signed` and whose id is `id`, or its
+/// first fault: it is no
 /// event, the server of its sender has not signed it, or its room is not known.
 pub(crate) fn judged<K: Keys>(
     alloc: Global,
     event: Json,
     size: usize,
+    signed: &[u8],
     id: EventId,
     rooms: &Rooms,
     keys: &K,
 ) -> Result<Checked, Fault>
     requires size { size ≡ length (canonical_text event) }
+    requires signed { signed.now ≡ signed_text_of event }
     requires id { id ≡ event_id_of event }
     ensures ok { IfOk result (λ checked. checked ≡ checked_of (K.checks keys.now) event) }
     ensures passes { IfOk result (λ _. verdict_on (K.checks keys.now) rooms.now event ≡ None) }
@@ -80,7 +83,7 @@ pub(crate) fn judged<K: Keys>(
 {
     let event = Pdu::with_id(alloc, event, size, id)?;
     let known = rooms.contains(event.room_id());
-    let checked = check_in(alloc, event, keys)?;
+    let checked = check_signed(alloc, event, signed, keys)?;
     if !known {
         return Err(Fault::UnknownRoom);
     }
