@@ -541,7 +541,7 @@ fn made(alloc: Global, name: &str, text: &str) -> Result<Result<Pdu, PduFault>, 
     let event = changed(alloc, name, text)?;
     let size = canonical(alloc, &event)?.len();
     let id = event_id(alloc, &event)?;
-    Ok(Pdu::with_id(event, size, id))
+    Ok(Pdu::with_id(alloc, event, size, id))
 }
 
 #[test]
@@ -549,6 +549,7 @@ fn with_an_id(rt: HostRuntime) -> Result<(), Fail> {
     let alloc = rt.alloc();
     let pdu = made(alloc, "depth", "7")??;
     assert_eq!(rt; pdu.id().as_str(), event_id_text());
+    assert!(rt; !pdu.hash_fits());
     assert_eq!(rt;
         made(alloc, "type", "")?.err(),
         Some(PduFault::Missing(Field::Type))
