@@ -1,6 +1,6 @@
 -- Which event a value is, and bytes are (Matrix, Server-Server API, "Checks performed on receipt of a PDU", check 1; appendix
 -- "Canonical JSON").
-use Rattle.std.specs.Prelude.{ℕ, List, if◌then◌else◌, Option, None, Result, Ok, Err, unwrap_or, option_map}
+use Rattle.std.specs.Prelude.{ℕ, List, if◌then◌else◌, None, Result, Ok, Err, unwrap_or, option_map}
 use Rattle.std.specs.Str.{is_utf8}
 use Rattle.serde_json.specs.Data.{Data}
 use Rattle.serde_json.specs.Read.{read as json_value}
