@@ -445,46 +445,63 @@ fn ids_in_fields(rt: HostRuntime) -> Result<(), Fail> {
     Ok(())
 }
 
-fn content_text(alloc: Global, pdu: &Pdu) -> Result<Vec<u8>, AllocError> {
-    text_at(alloc, pdu.content())
+fn has_content(alloc: Global, pdu: &Pdu, text: &str) -> Result<bool, AllocError> {
+    Ok(text_at(alloc, pdu.content())?.as_slice() == text.as_bytes())
 }
 
-fn hashes_text(alloc: Global, pdu: &Pdu) -> Result<Vec<u8>, AllocError> {
-    text_at(alloc, pdu.hashes())
+fn has_hashes(alloc: Global, pdu: &Pdu, text: &str) -> Result<bool, AllocError> {
+    Ok(text_at(alloc, pdu.hashes())?.as_slice() == text.as_bytes())
 }
 
-fn signatures_text(alloc: Global, pdu: &Pdu) -> Result<Vec<u8>, AllocError> {
-    text_at(alloc, pdu.signatures())
+fn has_signatures(alloc: Global, pdu: &Pdu, text: &str) -> Result<bool, AllocError> {
+    Ok(text_at(alloc, pdu.signatures())?.as_slice() == text.as_bytes())
 }
 
 #[test]
 fn objects_in_fields(rt: HostRuntime) -> Result<(), Fail> {
     let alloc = rt.alloc();
     let pdu = event(alloc, event_text())?;
-    let text = content_text(alloc, &pdu)?;
-    assert_eq!(rt; text.as_slice(), b"{\"topic\":\"hi\"}".as_slice());
-    let text = hashes_text(alloc, &pdu)?;
-    assert_eq!(rt; text.as_slice(), b"{\"sha256\":\"x\"}".as_slice());
-    let text = signatures_text(alloc, &pdu)?;
-    assert_eq!(rt;
-        text.as_slice(),
-        b"{\"a\":{\"ed25519:1\":\"y\"}}".as_slice()
-    );
+    assert!(rt; has_content(alloc, &pdu, "{\"topic\":\"hi\"}")?);
+    assert!(rt; has_hashes(alloc, &pdu, "{\"sha256\":\"x\"}")?);
+    assert!(rt; has_signatures(alloc, &pdu, "{\"a\":{\"ed25519:1\":\"y\"}}")?);
     Ok(())
 }
 
 #[test]
-fn texts_and_numbers_in_fields(rt: HostRuntime) -> Result<(), Fail> {
+fn numbers_in_fields(rt: HostRuntime) -> Result<(), Fail> {
     let alloc = rt.alloc();
     let pdu = event(alloc, event_text())?;
     assert_eq!(rt; pdu.depth(), 7);
     assert_eq!(rt; pdu.origin_server_ts(), 1_700_000_000_000);
-    assert_eq!(rt; pdu.room_id(), "!r:a");
-    assert_eq!(rt; pdu.sender(), "@u:a");
-    assert_eq!(rt; pdu.kind(), "m.room.topic");
-    assert_eq!(rt; pdu.state_key(), Some("k"));
+    Ok(())
+}
+
+fn has_room_id(pdu: &Pdu, text: &str) -> bool {
+    pdu.room_id() == text
+}
+
+fn has_sender(pdu: &Pdu, text: &str) -> bool {
+    pdu.sender() == text
+}
+
+fn has_kind(pdu: &Pdu, text: &str) -> bool {
+    pdu.kind() == text
+}
+
+fn has_state_key(pdu: &Pdu, text: Option<&str>) -> bool {
+    pdu.state_key() == text
+}
+
+#[test]
+fn texts_in_fields(rt: HostRuntime) -> Result<(), Fail> {
+    let alloc = rt.alloc();
+    let pdu = event(alloc, event_text())?;
+    assert!(rt; has_room_id(&pdu, "!r:a"));
+    assert!(rt; has_sender(&pdu, "@u:a"));
+    assert!(rt; has_kind(&pdu, "m.room.topic"));
+    assert!(rt; has_state_key(&pdu, Some("k")));
     let message = tested(alloc, changed(alloc, "state_key", "")?)?;
-    assert_eq!(rt; message.state_key(), None);
+    assert!(rt; has_state_key(&message, None));
     Ok(())
 }
 
