@@ -1,6 +1,6 @@
 // Verdicts on events, and which of them are handed on to the rooms.
 use crate::Inbox;
-use fed_event::{StandIn, Trusting, event_id, seal};
+use fed_event::{Keys, StandIn, Trusting, event_id, is_sent_by, seal};
 use fed_json::{Json, canonical, read};
 use std::alloc::Global;
 use std::test::Fail;
@@ -30,7 +30,11 @@ fn parts(alloc: Global, room: &str, content: &str) -> Result<Json, Fail> {
 // The text of an event with its hash and the signature of a.example.
 fn signed(alloc: Global, room: &str, content: &str) -> Result<String, Fail> {
     let keys = StandIn::new(String::from_str(alloc, "a.example")?);
-    let event = seal(alloc, parts(alloc, room, content)?, &keys)?;
+    let parts = parts(alloc, room, content)?;
+    if !is_sent_by(keys.own(), &parts) {
+        return Err(Fail::from("another sender"));
+    }
+    let event = seal(alloc, parts, &keys)?;
     text_of(alloc, event.event().json())
 }
 
