@@ -1,5 +1,6 @@
 -- How far the elements of a transaction are entered.
 use Rattle.std.proofs.Common.{◌≡◌, ℕ, List, [], ◌∷◌, ◌++◌, Bool, true, false, ◌&&◌, ◌||◌, not, cond, if◌then◌else◌, Option, Some, is_some, is_none, map, filter, bytes_eq, refl, sym, ap, ◌∙◌, append_assoc, ◌⊎◌, inl, inr}
+use Rattle.std.proofs.lemmas.Bool.{cases_Bool}
 use Rattle.std.proofs.lemmas.List.{append-nil}
 use Rattle.std.specs.FinMap as finite
 use Rattle.std.specs.Cmp.Lexicographic.{slice_cmp, nat_list_cmp_total}
@@ -14,10 +15,6 @@ use Rattle.fed_event.specs.Checked.{CheckedEvent, checked_of}
 use Rattle.fed_txn.specs.Verdicts.{VerdictMap}
 use Rattle.fed_inbox.specs.Taking.{firsts_but, verdict_on, with_verdicts, verdicts_on, passing, fresh_of}
 use Rattle.fed_inbox.specs.ReceivedParts.{Entered, with_event, after_element}
-
-cases : (b : Bool) → (b ≡ true) ⊎ (b ≡ false)
-cases true = inl refl
-cases false = inr refl
 
 is_some-cond : (b : Bool) (v : Option (List ℕ)) (o : Option (Option (List ℕ))) → is_some (cond b (Some v) o) ≡ (b || is_some o)
 is_some-cond true v o = refl
@@ -47,7 +44,7 @@ module _ (checks : Checks) (rooms : List (List ℕ)) where
       [ true ↦ append_assoc fresh (checked_of checks event ∷ []) (passing checks rooms events) | false ↦ refl ]
 
   pub enters_next : (so_far : Entered) (element : Data) (left all : List Data) → Enters so_far (element ∷ left) all → Enters (after_element checks rooms so_far element) left all
-  enters_next so_far element left all reached = by (cases looked_at)
+  enters_next so_far element left all reached = by (cases_Bool looked_at)
     where
       id : List ℕ
       id = event_id_of element

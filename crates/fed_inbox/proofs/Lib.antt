@@ -4,3 +4,4 @@ pub mod Steps
 pub mod Runs
 pub mod RoomSets
 pub mod Entering
+pub mod LookUps

@@ -1,5 +1,6 @@
 -- What a request leaves of the logs.
 use Rattle.std.proofs.Common.{◌≡◌, ◌≢◌, ℕ, List, [], ◌∷◌, ◌++◌, Bool, true, false, cond, if◌then◌else◌, Option, Some, None, Result, Ok, Err, bytes_eq, refl, sym, ap, ◌∙◌, subst, append_assoc, ◌⊎◌, inl, inr}
+use Rattle.std.proofs.lemmas.Bool.{cases_Bool}
 use Rattle.std.proofs.lemmas.List.{append-nil}
 use Rattle.std.proofs.lemmas.Slice.Eq.{bytes_eq-Decides}
 use Rattle.std.specs.FinMap as finite
@@ -48,10 +49,6 @@ step_grows checks rooms l r = body_grows checks rooms l r.txn (body_of r.body)
 
 -- ---- the log of an origin among the logs
 
-is_true_or_false : (b : Bool) → (b ≡ true) ⊎ (b ≡ false)
-is_true_or_false true = inl refl
-is_true_or_false false = inr refl
-
 named : (o : List ℕ) (l : LogState) → is_of o l ≡ true → l.origin ≡ o
 named o l h = (bytes_eq-Decides l.origin o).0 h
 
@@ -59,7 +56,7 @@ is_named : (o : List ℕ) (l : LogState) → l.origin ≡ o → is_of o l ≡ tr
 is_named o l h = (bytes_eq-Decides l.origin o).1 h
 
 other_named : (o p : List ℕ) (l : LogState) → o ≢ p → l.origin ≡ p → is_of o l ≡ false
-other_named o p l apart h = by (is_true_or_false (is_of o l))
+other_named o p l apart h = by (cases_Bool (is_of o l))
   where
     by : (is_of o l ≡ true) ⊎ (is_of o l ≡ false) → is_of o l ≡ false
     by (inl t) = absurd (apart (sym (named o l t) ∙ h))
@@ -67,7 +64,7 @@ other_named o p l apart h = by (is_true_or_false (is_of o l))
 
 found_is : (o : List ℕ) (ls : List LogState) (old : LogState) → log_at o ls ≡ Some old → old.origin ≡ o
 found_is o [] old h = absurd (cc)
-found_is o (l ∷ ls) old h = by (is_true_or_false (is_of o l)) (found_is o ls old)
+found_is o (l ∷ ls) old h = by (cases_Bool (is_of o l)) (found_is o ls old)
   where
     by : (is_of o l ≡ true) ⊎ (is_of o l ≡ false) → (log_at o ls ≡ Some old → old.origin ≡ o) → old.origin ≡ o
     by (inl t) rest =
@@ -78,7 +75,7 @@ found_is o (l ∷ ls) old h = by (is_true_or_false (is_of o l)) (found_is o ls o
 
 log_at-with_log_same : (o : List ℕ) (ls : List LogState) (old new : LogState) → log_at o ls ≡ Some old → new.origin ≡ o → log_at o (with_log o ls new) ≡ Some new
 log_at-with_log_same o [] old new h n = absurd (cc)
-log_at-with_log_same o (l ∷ ls) old new h n = by (is_true_or_false (is_of o l)) (λ k. log_at-with_log_same o ls old new k n)
+log_at-with_log_same o (l ∷ ls) old new h n = by (cases_Bool (is_of o l)) (λ k. log_at-with_log_same o ls old new k n)
   where
     by : (is_of o l ≡ true) ⊎ (is_of o l ≡ false) → (log_at o ls ≡ Some old → log_at o (with_log o ls new) ≡ Some new) → log_at o (with_log o (l ∷ ls) new) ≡ Some new
     by (inl t) rest = ap (λ b. log_at o (if b then new ∷ ls else l ∷ with_log o ls new)) t ∙ ap (λ b. cond b (Some new) (log_at o ls)) (is_named o new n)
@@ -88,7 +85,7 @@ log_at-with_log_same o (l ∷ ls) old new h n = by (is_true_or_false (is_of o l)
 
 log_at-with_log_other : (o p : List ℕ) (ls : List LogState) (new : LogState) → o ≢ p → new.origin ≡ p → log_at o (with_log p ls new) ≡ log_at o ls
 log_at-with_log_other o p [] new apart n = refl
-log_at-with_log_other o p (l ∷ ls) new apart n = by (is_true_or_false (is_of p l)) (log_at-with_log_other o p ls new apart n)
+log_at-with_log_other o p (l ∷ ls) new apart n = by (cases_Bool (is_of p l)) (log_at-with_log_other o p ls new apart n)
   where
     by : (is_of p l ≡ true) ⊎ (is_of p l ≡ false) → log_at o (with_log p ls new) ≡ log_at o ls → log_at o (with_log p (l ∷ ls) new) ≡ log_at o (l ∷ ls)
     by (inl t) rest =
@@ -112,8 +109,8 @@ other_stays checks s r o apart = by (option_cases (log_at r.origin s.logs))
 own_steps : (checks : Checks) (s : InboxState) (r : Request) (l : LogState) → log_at r.origin s.logs ≡ Some l → log_at r.origin (after checks s r).logs ≡ Some (step_of checks s.rooms l r).log
 own_steps checks s r l there = ap (λ found. log_at r.origin (logs_by checks s.rooms s.logs found r)) there ∙ log_at-with_log_same r.origin s.logs l (step_of checks s.rooms l r).log there ((step_grows checks s.rooms l r).origin ∙ found_is r.origin s.logs l there)
 
-same_or_not : (o p : List ℕ) → (o ≡ p) ⊎ (o ≢ p)
-same_or_not o p = by (is_true_or_false (bytes_eq o p))
+pub same_or_not : (o p : List ℕ) → (o ≡ p) ⊎ (o ≢ p)
+same_or_not o p = by (cases_Bool (bytes_eq o p))
   where
     by : (bytes_eq o p ≡ true) ⊎ (bytes_eq o p ≡ false) → (o ≡ p) ⊎ (o ≢ p)
     by (inl t) = inl ((bytes_eq-Decides o p).0 t)
@@ -161,7 +158,7 @@ module _ (part : LogState → List (List ℕ)) (grows : (checks : Checks) (rooms
 -- ---- kept replies
 
 get-insert_kept : (m : TextMap (List ℕ)) (k v q reply : List ℕ) → finite.get m k ≡ None → finite.get m q ≡ Some reply → finite.get (finite.insert m k v) q ≡ Some reply
-get-insert_kept m k v q reply absent kept = finite.get-insert nat_list_cmp_total m k v q ∙ by (is_true_or_false (bytes_eq q k))
+get-insert_kept m k v q reply absent kept = finite.get-insert nat_list_cmp_total m k v q ∙ by (cases_Bool (bytes_eq q k))
   where
     by : (bytes_eq q k ≡ true) ⊎ (bytes_eq q k ≡ false) → cond (is_eq (slice_cmp nat_cmp q k)) (Some v) (finite.get m q) ≡ Some reply
     by (inl t) =
@@ -216,7 +213,7 @@ body_repeats checks rooms l txn (Ok d) reply kept =
 -- a log put back in its own place changes nothing
 put_back : (o : List ℕ) (ls : List LogState) (l : LogState) → log_at o ls ≡ Some l → with_log o ls l ≡ ls
 put_back o [] l h = refl
-put_back o (m ∷ ls) l h = by (is_true_or_false (is_of o m)) (put_back o ls l)
+put_back o (m ∷ ls) l h = by (cases_Bool (is_of o m)) (put_back o ls l)
   where
     by : (is_of o m ≡ true) ⊎ (is_of o m ≡ false) → (log_at o ls ≡ Some l → with_log o ls l ≡ ls) → with_log o (m ∷ ls) l ≡ m ∷ ls
     by (inl t) rest =

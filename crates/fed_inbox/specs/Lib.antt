@@ -13,3 +13,4 @@ pub mod InboxParts
 pub mod Answer
 pub mod AnswerParts
 pub mod Runs
+pub mod LookUps

@@ -1,9 +1,29 @@
-// What holds of all lists of requests.
-ghost use Rattle.std.specs.Prelude.{◌≡◌, ◌≢◌, ℕ, List, Bool, Some, ◌++◌};
+// What holds of all inboxes and all lists of requests.
+ghost use Rattle.std.specs.Prelude.{◌≡◌, ◌≢◌, ℕ, List, Bool, Some, option_map, find, ◌++◌};
+ghost use Rattle.std.specs.FinMap as finite;
+ghost use Rattle.serde_json.specs.Data.{Data};
+ghost use Rattle.fed_event.specs.Names.{is_one_of};
 ghost use Rattle.fed_event.specs.Signatures.{Checks};
-ghost use Rattle.fed_inbox.specs.Inbox.{InboxState, taken_of, taken_edus_of};
+ghost use Rattle.fed_inbox.specs.Inbox.{InboxState, new_inbox, log_at, taken_of, taken_edus_of};
+ghost use Rattle.fed_inbox.specs.LookUps.{log_of_new, has_id};
+ghost use Rattle.fed_inbox.specs.Taking.{verdict_on, verdicts_on};
 ghost use Rattle.fed_inbox.specs.Answer.{Request, after, marked_after};
 ghost use Rattle.fed_inbox.specs.Runs.{after_all, kept_reply};
+
+/// A new inbox has an empty log for each listed server but its own and for no other server, and knows just the rooms that it was given.
+pub fn what_a_new_inbox_knows()
+    ensures logs { (own : List ℕ) (servers rooms : List (List ℕ)) (server : List ℕ)
+        → log_at server (new_inbox own servers rooms).logs ≡ log_of_new own servers server }
+    ensures rooms { (own : List ℕ) (servers rooms : List (List ℕ)) (room : List ℕ)
+        → is_one_of (new_inbox own servers rooms).rooms room ≡ is_one_of rooms room }
+{}
+
+/// The verdict under an id is the one on the first object of that id, and none stands under another id.
+pub fn the_first_of_an_id_decides()
+    ensures { (checks : Checks) (rooms : List (List ℕ)) (elements : List Data) (id : List ℕ)
+        → finite.get (verdicts_on checks rooms elements) id
+        ≡ option_map (verdict_on checks rooms) (find (has_id id) elements) }
+{}
 
 /// A kept reply stays, whatever comes after it.
 pub fn kept_replies_stay()

@@ -7,7 +7,7 @@
 //! - `received`, `verdict`: the verdicts on its events, each with its fault or handed on
 //! - `rooms`: the rooms that the server knows
 //! - `reply`: `Reply`, a status and a body
-//! - `laws`: what holds of all lists of requests
+//! - `laws`: what holds of all inboxes and all lists of requests
 //! - `refusal`: `Refusal`, the table of the error replies
 #![tactic(auto)]
 
@@ -26,6 +26,9 @@ mod tests_events;
 mod verdict;
 
 pub use inbox::Inbox;
-pub use laws::{kept_replies_stay, origins_are_apart, repeats_take_nothing, taken_grows};
+pub use laws::{
+    kept_replies_stay, origins_are_apart, repeats_take_nothing, taken_grows,
+    the_first_of_an_id_decides, what_a_new_inbox_knows,
+};
 pub use refusal::Refusal;
 pub use reply::Reply;

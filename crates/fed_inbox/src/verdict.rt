@@ -61,9 +61,8 @@ impl Fault {
     }
 }
 
-/// The checked event that a value is, whose canonical text has `size` bytes, whose signed text is `signed` and whose id is `id`, or its
-/// first fault: it is no
-/// event, the server of its sender has not signed it, or its room is not known.
+/// The checked event that a value is, or its first fault: it is no event, the server of its sender has not signed it, or its room is not
+/// known. The canonical text of the value has `size` bytes, its signed text is `signed` and its id is `id`.
 pub(crate) fn judged<K: Keys>(
     alloc: Global,
     event: Json,

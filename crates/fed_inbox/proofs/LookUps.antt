@@ -1,0 +1,236 @@
+-- What a new inbox knows and what the verdicts of a transaction are, as look-ups.
+use Rattle.std.proofs.Common.{◌≡◌, ◌≢◌, ℕ, List, [], ◌∷◌, ◌++◌, Bool, true, false, ◌&&◌, ◌||◌, not, cond, if◌then◌else◌, Option, Some, None, option_map, is_some, find, bytes_eq, Less, Equal, Greater, nat_cmp, refl, sym, ap, ◌∙◌, ◌⊎◌, inl, inr}
+use Rattle.std.proofs.lemmas.Bool.{cases_Bool, false≢true}
+use Rattle.std.specs.List.{list_any}
+use Rattle.std.proofs.lemmas.Slice.Eq.{bytes_eq-Decides}
+use Rattle.std.proofs.lemmas.Map.Text.{is_eq-slice_cmp}
+use Rattle.std.specs.FinMap as finite
+use Rattle.std.specs.Ordering.{is_eq, match_ordering}
+use Rattle.std.specs.BTreeSet.{insert_key}
+use Rattle.std.specs.Cmp.Lexicographic.{slice_cmp, nat_list_cmp_total}
+use Rattle.serde_json.specs.Data.{Data}
+use Rattle.serde_json.specs.Find.{as_object}
+use Rattle.fed_event.specs.Names.{is_one_of}
+use Rattle.fed_event.specs.EventId.{event_id_of}
+use Rattle.fed_event.specs.Signatures.{Checks}
+use Rattle.fed_txn.specs.Verdicts.{VerdictMap}
+use Rattle.fed_inbox.specs.Log.{LogState}
+use Rattle.fed_inbox.specs.Rooms.{with_rooms}
+use Rattle.fed_inbox.specs.Inbox.{is_of, is_new, log_at, empty_log, with_server, with_servers}
+use Rattle.fed_inbox.specs.Taking.{firsts_but, verdict_on, with_verdicts}
+use Rattle.fed_inbox.specs.LookUps.{log_of_new, has_id}
+use Rattle.fed_inbox.proofs.Runs.{same_or_not}
+
+-- ---- the rooms
+
+swapped : (a b c : Bool) → (a || (b || c)) ≡ (b || (a || c))
+swapped true true c = refl
+swapped true false c = refl
+swapped false true c = refl
+swapped false false c = refl
+
+twice : (a c : Bool) → (a || c) ≡ (a || (a || c))
+twice true c = refl
+twice false c = refl
+
+equal_texts : (k x : List ℕ) → slice_cmp nat_cmp k x ≡ Equal → k ≡ x
+equal_texts k x e = (bytes_eq-Decides k x).0 (sym (is_eq-slice_cmp k x) ∙ ap is_eq e)
+
+room_entered : (set : List (List ℕ)) (k q : List ℕ) → is_one_of (insert_key (slice_cmp nat_cmp) set k) q ≡ (bytes_eq q k || is_one_of set q)
+room_entered [] k q = refl
+room_entered (x ∷ xs) k q =
+    elim (slice_cmp nat_cmp k x) as (λ o. slice_cmp nat_cmp k x ≡ o → is_one_of (match_ordering o (k ∷ x ∷ xs) (x ∷ xs) (x ∷ insert_key (slice_cmp nat_cmp) xs k)) q ≡ (bytes_eq q k || (bytes_eq q x || is_one_of xs q))) [
+      | Less ↦ (λ e. refl)
+      | Equal ↦ (λ e. rw (equal_texts k x e) (twice (bytes_eq q x) (is_one_of xs q)))
+      | Greater ↦ (λ e. ap (λ b. bytes_eq q x || b) (room_entered xs k q) ∙ swapped (bytes_eq q x) (bytes_eq q k) (is_one_of xs q))
+    ]
+    refl
+
+moved : (a b c : Bool) → ((a || b) || c) ≡ (b || (a || c))
+moved true true c = refl
+moved true false c = refl
+moved false b c = refl
+
+pub rooms_known : (set rooms : List (List ℕ)) (q : List ℕ) → is_one_of (with_rooms set rooms) q ≡ (is_one_of set q || is_one_of rooms q)
+rooms_known set [] q = or_false (is_one_of set q)
+  where
+    or_false : (b : Bool) → b ≡ (b || false)
+    or_false true = refl
+    or_false false = refl
+rooms_known set (room ∷ rooms) q =
+    rooms_known (insert_key (slice_cmp nat_cmp) set room) rooms q
+    ∙ ap (λ b. b || is_one_of rooms q) (room_entered set room q)
+    ∙ moved (bytes_eq q room) (is_one_of set q) (is_one_of rooms q)
+
+-- ---- the logs
+
+eq_true : (x : List ℕ) → bytes_eq x x ≡ true
+eq_true x = (bytes_eq-Decides x x).1 refl
+
+eq_false : (x y : List ℕ) → x ≢ y → bytes_eq x y ≡ false
+eq_false x y apart = by (cases_Bool (bytes_eq x y))
+  where
+    by : (bytes_eq x y ≡ true) ⊎ (bytes_eq x y ≡ false) → bytes_eq x y ≡ false
+    by (inl t) = absurd (apart ((bytes_eq-Decides x y).0 t))
+    by (inr f) = f
+
+abbrev or_else : Option LogState → Option LogState → Option LogState
+or_else (Some l) other = Some l
+or_else None other = other
+
+or_else_none : (o : Option LogState) → or_else o None ≡ o
+or_else_none (Some l) = refl
+or_else_none None = refl
+
+log_at-append : (q : List ℕ) (ls ms : List LogState) → log_at q (ls ++ ms) ≡ or_else (log_at q ls) (log_at q ms)
+log_at-append q [] ms = refl
+log_at-append q (l ∷ ls) ms =
+    elim (is_of q l) as (λ b. cond b (Some l) (log_at q (ls ++ ms)) ≡ or_else (cond b (Some l) (log_at q ls)) (log_at q ms))
+    [ true ↦ refl | false ↦ log_at-append q ls ms ]
+
+has_log : (q : List ℕ) (ls : List LogState) → list_any (is_of q) ls ≡ is_some (log_at q ls)
+has_log q [] = refl
+has_log q (l ∷ ls) =
+    elim (is_of q l) as (λ b. (b || list_any (is_of q) ls) ≡ is_some (cond b (Some l) (log_at q ls)))
+    [ true ↦ refl | false ↦ has_log q ls ]
+
+-- a server changes nothing for another one
+other_server : (own : List ℕ) (ls : List LogState) (s q : List ℕ) → s ≢ q → log_at q (with_server own ls s) ≡ log_at q ls
+other_server own ls s q apart =
+    elim (is_new ls own s) as (λ b. log_at q (if b then ls ++ empty_log s ∷ [] else ls) ≡ log_at q ls) [
+      | true ↦ log_at-append q ls (empty_log s ∷ []) ∙ ap (λ b. or_else (log_at q ls) (cond b (Some (empty_log s)) None)) (eq_false s q apart) ∙ or_else_none (log_at q ls)
+      | false ↦ refl
+    ]
+
+not_first : (own s : List ℕ) (ss : List (List ℕ)) (q : List ℕ) → q ≢ s → log_of_new own ss q ≡ log_of_new own (s ∷ ss) q
+not_first own s ss q apart = ap (λ b. if (b || is_one_of ss q) && not (bytes_eq q own) then Some (empty_log q) else None) (sym (eq_false q s apart))
+
+and_false : (b : Bool) → (b && false) ≡ false
+and_false true = refl
+and_false false = refl
+
+-- the own server
+own_has_none : (own : List ℕ) (ss : List (List ℕ)) (q : List ℕ) → bytes_eq q own ≡ true → log_of_new own ss q ≡ None
+own_has_none own ss q t =
+    ap (λ b. if is_one_of ss q && not b then Some (empty_log q) else None) t
+    ∙ ap (λ b. if b then Some (empty_log q) else None) (and_false (is_one_of ss q))
+
+first_listed : (own : List ℕ) (ls : List LogState) (q : List ℕ) (ss : List (List ℕ)) → or_else (log_at q (with_server own ls q)) (log_of_new own ss q) ≡ or_else (log_at q ls) (log_of_new own (q ∷ ss) q)
+first_listed own ls q ss = by (cases_Bool (bytes_eq q own)) (log_at q ls) refl
+  where
+    new_by : (b c : Bool) → bytes_eq q own ≡ b → list_any (is_of q) ls ≡ c → with_server own ls q ≡ (if not b && not c then ls ++ empty_log q ∷ [] else ls)
+    new_by b c e f = ap (λ x. if not x && not (list_any (is_of q) ls) then ls ++ empty_log q ∷ [] else ls) e ∙ ap (λ y. if not b && not y then ls ++ empty_log q ∷ [] else ls) f
+
+    by : (bytes_eq q own ≡ true) ⊎ (bytes_eq q own ≡ false) → (o : Option LogState) → log_at q ls ≡ o
+        → or_else (log_at q (with_server own ls q)) (log_of_new own ss q) ≡ or_else (log_at q ls) (log_of_new own (q ∷ ss) q)
+    by (inl t) o e =
+        ap (λ n. or_else (log_at q n) (log_of_new own ss q)) (new_by true (list_any (is_of q) ls) t refl)
+        ∙ ap (or_else (log_at q ls)) (own_has_none own ss q t ∙ sym (own_has_none own (q ∷ ss) q t))
+    by (inr f) (Some l) e =
+        ap (λ n. or_else (log_at q n) (log_of_new own ss q)) (new_by false true f (has_log q ls ∙ ap is_some e))
+        ∙ ap (λ o. or_else o (log_of_new own ss q)) e ∙ ap (λ o. or_else o (log_of_new own (q ∷ ss) q)) (sym e)
+    by (inr f) None e =
+        ap (λ n. or_else (log_at q n) (log_of_new own ss q)) (new_by false false f (has_log q ls ∙ ap is_some e))
+        ∙ ap (λ o. or_else o (log_of_new own ss q)) (log_at-append q ls (empty_log q ∷ []) ∙ ap (λ o. or_else o (cond (bytes_eq q q) (Some (empty_log q)) None)) e
+        ∙ ap (λ b. cond b (Some (empty_log q)) None) (eq_true q))
+        ∙ sym (ap (λ o. or_else o (log_of_new own (q ∷ ss) q)) e
+        ∙ ap (λ b. if (b || is_one_of ss q) && not (bytes_eq q own) then Some (empty_log q) else None) (eq_true q)
+        ∙ ap (λ b. if not b then Some (empty_log q) else None) f)
+
+pub logs_listed : (own : List ℕ) (ls : List LogState) (servers : List (List ℕ)) (q : List ℕ) → log_at q (with_servers own ls servers) ≡ or_else (log_at q ls) (log_of_new own servers q)
+logs_listed own ls [] q = sym (or_else_none (log_at q ls))
+logs_listed own ls (s ∷ ss) q = logs_listed own (with_server own ls s) ss q ∙ by (same_or_not q s)
+  where
+    by : (q ≡ s) ⊎ (q ≢ s) → or_else (log_at q (with_server own ls s)) (log_of_new own ss q) ≡ or_else (log_at q ls) (log_of_new own (s ∷ ss) q)
+    by (inl is) =
+        ap (λ x. or_else (log_at q (with_server own ls x)) (log_of_new own ss q)) (sym is) ∙ first_listed own ls q ss ∙ ap (λ x. or_else (log_at q ls) (log_of_new own (x ∷ ss) q)) is
+    by (inr apart) =
+        ap (λ o. or_else o (log_of_new own ss q)) (other_server own ls s q (λ e. apart (sym e))) ∙ ap (or_else (log_at q ls)) (not_first own s ss q apart)
+
+-- ---- the verdicts
+
+or_true : (b : Bool) → (b || true) ≡ true
+or_true true = refl
+or_true false = refl
+
+module _ (checks : Checks) (rooms : List (List ℕ)) where
+  verdict_entered : (m : VerdictMap) (k : List ℕ) (v : Option (List ℕ)) (q : List ℕ) → finite.get (finite.insert m k v) q ≡ cond (bytes_eq q k) (Some v) (finite.get m q)
+  verdict_entered m k v q = finite.get-insert nat_list_cmp_total m k v q ∙ ap (λ b. cond b (Some v) (finite.get m q)) (is_eq-slice_cmp q k)
+
+  firsts_by : (known : List (List ℕ)) (e : Data) (es : List Data) (b : Bool) → (is_some (as_object e) && not (is_one_of known (event_id_of e))) ≡ b
+      → firsts_but known (e ∷ es) ≡ (if b then e ∷ firsts_but (event_id_of e ∷ known) es else firsts_but known es)
+  firsts_by known e es b is = ap (λ t. if t then e ∷ firsts_but (event_id_of e ∷ known) es else firsts_but known es) is
+
+  -- the verdict under a known id stays
+  known_stays : (m : VerdictMap) (known : List (List ℕ)) (es : List Data) (q : List ℕ) → is_one_of known q ≡ true
+      → finite.get (with_verdicts checks rooms m (firsts_but known es)) q ≡ finite.get m q
+  known_stays m known [] q here = refl
+  known_stays m known (e ∷ es) q here = by (λ m' known' here'. known_stays m' known' es q here') (cases_Bool (is_some (as_object e) && not (is_one_of known (event_id_of e))))
+    where
+      id : List ℕ
+      id = event_id_of e
+
+      by : ((m' : VerdictMap) (known' : List (List ℕ)) → is_one_of known' q ≡ true → finite.get (with_verdicts checks rooms m' (firsts_but known' es)) q ≡ finite.get m' q)
+          → ((is_some (as_object e) && not (is_one_of known id)) ≡ true) ⊎ ((is_some (as_object e) && not (is_one_of known id)) ≡ false)
+          → finite.get (with_verdicts checks rooms m (firsts_but known (e ∷ es))) q ≡ finite.get m q
+      by rest (inr f) = ap (λ l. finite.get (with_verdicts checks rooms m l) q) (firsts_by known e es false f) ∙ rest m known here
+      by rest (inl t) =
+          ap (λ l. finite.get (with_verdicts checks rooms m l) q) (firsts_by known e es true t)
+          ∙ rest (finite.insert m id (verdict_on checks rooms e)) (id ∷ known) (ap (λ b. bytes_eq q id || b) here ∙ or_true (bytes_eq q id))
+          ∙ verdict_entered m id (verdict_on checks rooms e) q
+          ∙ ap (λ b. cond b (Some (verdict_on checks rooms e)) (finite.get m q)) (eq_false q id (λ same. cc_of same t))
+        where
+          cc_of : q ≡ id → (is_some (as_object e) && not (is_one_of known id)) ≡ true → ⊥
+          cc_of same t =
+              let there : is_one_of known id ≡ true = ap (is_one_of known) (sym same) ∙ here in
+              let no : (is_some (as_object e) && not true) ≡ true = ap (λ b. is_some (as_object e) && not b) (sym there) ∙ t in
+              false≢true (sym (and_false (is_some (as_object e))) ∙ no)
+
+  -- under another id stands the verdict on the first object of that id
+  pub first_decides : (m : VerdictMap) (known : List (List ℕ)) (es : List Data) (q : List ℕ) → is_one_of known q ≡ false → finite.get m q ≡ None
+      → finite.get (with_verdicts checks rooms m (firsts_but known es)) q ≡ option_map (verdict_on checks rooms) (find (has_id q) es)
+  first_decides m known [] q new none = none
+  first_decides m known (e ∷ es) q new none = by (λ m' known' new' none'. first_decides m' known' es q new' none') (cases_Bool (is_some (as_object e))) (same_or_not q (event_id_of e))
+    where
+      id : List ℕ
+      id = event_id_of e
+
+      rest : Option (Option (List ℕ))
+      rest = option_map (verdict_on checks rooms) (find (has_id q) es)
+
+      -- what the look-up comes to where the element has the id or not
+      find_by : (b : Bool) → has_id q e ≡ b → option_map (verdict_on checks rooms) (find (has_id q) (e ∷ es)) ≡ (if b then Some (verdict_on checks rooms e) else rest)
+      find_by b is = ap (λ t. option_map (verdict_on checks rooms) (cond t (Some e) (find (has_id q) es))) is
+          ∙ elim b as (λ t. option_map (verdict_on checks rooms) (cond t (Some e) (find (has_id q) es)) ≡ (if t then Some (verdict_on checks rooms e) else rest)) [ true ↦ refl | false ↦ refl ]
+
+      Left : Type 0
+      Left = (m' : VerdictMap) (known' : List (List ℕ)) → is_one_of known' q ≡ false → finite.get m' q ≡ None
+          → finite.get (with_verdicts checks rooms m' (firsts_but known' es)) q ≡ rest
+
+      skipped : Left → (is_some (as_object e) && not (is_one_of known id)) ≡ false → has_id q e ≡ false
+          → finite.get (with_verdicts checks rooms m (firsts_but known (e ∷ es))) q ≡ option_map (verdict_on checks rooms) (find (has_id q) (e ∷ es))
+      skipped left f lacks =
+          ap (λ l. finite.get (with_verdicts checks rooms m l) q) (firsts_by known e es false f) ∙ left m known new none ∙ sym (find_by false lacks)
+
+      by : Left → (is_some (as_object e) ≡ true) ⊎ (is_some (as_object e) ≡ false) → (q ≡ id) ⊎ (q ≢ id)
+          → finite.get (with_verdicts checks rooms m (firsts_but known (e ∷ es))) q ≡ option_map (verdict_on checks rooms) (find (has_id q) (e ∷ es))
+      by left (inr other) same = skipped left (ap (λ b. b && not (is_one_of known id)) other) (ap (λ b. b && bytes_eq q id) other)
+      by left (inl object) (inl is) =
+          ap (λ l. finite.get (with_verdicts checks rooms m l) q) (firsts_by known e es true (ap (λ b. b && not (is_one_of known id)) object ∙ ap not (ap (is_one_of known) (sym is) ∙ new)))
+          ∙ known_stays (finite.insert m id (verdict_on checks rooms e)) (id ∷ known) es q (ap (λ b. b || is_one_of known q) ((bytes_eq-Decides q id).1 is))
+          ∙ verdict_entered m id (verdict_on checks rooms e) q
+          ∙ ap (λ b. cond b (Some (verdict_on checks rooms e)) (finite.get m q)) ((bytes_eq-Decides q id).1 is)
+          ∙ sym (find_by true (ap (λ b. b && bytes_eq q id) object ∙ (bytes_eq-Decides q id).1 is))
+      by left (inl object) (inr apart) = among (cases_Bool (is_one_of known id))
+        where
+          lacks : has_id q e ≡ false
+          lacks = ap (λ b. b && bytes_eq q id) object ∙ eq_false q id apart
+
+          among : (is_one_of known id ≡ true) ⊎ (is_one_of known id ≡ false)
+              → finite.get (with_verdicts checks rooms m (firsts_but known (e ∷ es))) q ≡ option_map (verdict_on checks rooms) (find (has_id q) (e ∷ es))
+          among (inl seen) = skipped left (ap (λ b. b && not (is_one_of known id)) object ∙ ap not seen) lacks
+          among (inr unseen) =
+              ap (λ l. finite.get (with_verdicts checks rooms m l) q) (firsts_by known e es true (ap (λ b. b && not (is_one_of known id)) object ∙ ap not unseen))
+              ∙ left (finite.insert m id (verdict_on checks rooms e)) (id ∷ known) (ap (λ b. b || is_one_of known q) (eq_false q id apart) ∙ new)
+              (verdict_entered m id (verdict_on checks rooms e) q ∙ ap (λ b. cond b (Some (verdict_on checks rooms e)) (finite.get m q)) (eq_false q id apart) ∙ none)
+              ∙ sym (find_by false lacks)
