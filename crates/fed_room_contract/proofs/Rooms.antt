@@ -1,0 +1,118 @@
+-- Rooms that grow.
+use Rattle.std.proofs.Common.{◌≡◌, ℕ, zero, suc, ◌<◌, ◌≤◌, List, [], ◌∷◌, ◌++◌, append_assoc, length, replicate, Bool, true, false, not, cond, if◌then◌else◌, Option, None, Some, is_some, option_map, refl, sym, ap, ◌∙◌, subst, arith}
+use Rattle.std.proofs.lemmas.List.{append-nil}
+use Rattle.std.proofs.lemmas.Slice.Eq.{bytes_eq-Decides}
+use Rattle.std.specs.List.{find}
+use Rattle.fed_event.specs.Checked.{CheckedEvent}
+use Rattle.fed_room_contract.specs.declared.verdict.Verdict.{Verdict}
+use Rattle.fed_room_contract.specs.declared.verdict.Verdict.TheVariants.{Accepted}
+use Rattle.fed_room_contract.specs.declared.receipt.Receipt.{Receipt}
+use Rattle.fed_room_contract.specs.declared.receipt.Receipt.TheVariants as receipt
+use Rattle.fed_room_contract.specs.declared.graph.Stored.{Stored}
+use Rattle.fed_room_contract.specs.Graph.{IsGraph, has_id, is_stored, is_ready, stored_at}
+use Rattle.fed_room_contract.specs.Room.{RoomState, Rules, event_id, is_of_id, without, with_stored, receipt_of, after_receipt, first_ready, with_ready, advanced, committed}
+use Rattle.fed_room_contract.specs.Runs.{Input, receive, advance, commit, after_input, room_after, IsAdvanced}
+use Rattle.fed_room_contract.proofs.Graphs.{ready_stays}
+
+abbrev pub Grows : RoomState → RoomState → Type 0
+Grows old new = (more : List Stored) × (new.stored ≡ old.stored ++ more)
+
+same : (room : RoomState) → Grows room room
+same room = ([], sym (append-nil room.stored))
+
+stored_one : (room : RoomState) (event : CheckedEvent) (verdict : Verdict) → Grows room (with_stored room event verdict)
+stored_one room event verdict = ((record { event = event; verdict = verdict }) ∷ [], refl)
+
+after_receipt_grows : (room : RoomState) (event : CheckedEvent) (r : Receipt) → Grows room (after_receipt room event r)
+after_receipt_grows room event (receipt.Stored verdict) = stored_one room event verdict
+after_receipt_grows room event receipt.Known = same room
+after_receipt_grows room event receipt.Waiting = same room
+after_receipt_grows room event receipt.Dropped = same room
+
+with_ready_grows : (rules : Rules) (room : RoomState) (o : Option CheckedEvent) → Grows room (with_ready rules room o)
+with_ready_grows rules room None = same room
+with_ready_grows rules room (Some event) = stored_one room event (rules.decide room.stored event)
+
+committed_grows : (room : RoomState) (event : CheckedEvent) → Grows room (committed room event)
+committed_grows room event = elim (is_stored room.stored (event_id event)) as (λ b. Grows room (if b then room else with_stored room event Accepted)) [ true ↦ same room | false ↦ stored_one room event Accepted ]
+
+input_grows : (rules : Rules) (room : RoomState) (input : Input) → Grows room (after_input rules room input)
+input_grows rules room (receive event) = after_receipt_grows room event (receipt_of rules room event)
+input_grows rules room advance = with_ready_grows rules room (first_ready room)
+input_grows rules room (commit event) = committed_grows room event
+
+pub room_grows : (rules : Rules) (room : RoomState) (inputs : List Input) → Grows room (room_after rules room inputs)
+room_grows rules room [] = same room
+room_grows rules room (input ∷ inputs) =
+    let one = input_grows rules room input in
+    let rest = room_grows rules (after_input rules room input) inputs in
+    (one.0 ++ rest.0, rest.1 ∙ ap (λ xs. xs ++ rest.0) one.1 ∙ append_assoc room.stored one.0 rest.0)
+
+pub room_after-++ : (rules : Rules) (room : RoomState) (inputs more : List Input) → room_after rules room (inputs ++ more) ≡ room_after rules (room_after rules room inputs) more
+room_after-++ rules room [] more = refl
+room_after-++ rules room (input ∷ inputs) more = room_after-++ rules (after_input rules room input) inputs more
+
+-- ---- a stored event is ready among those that are stored
+
+standing : (xs : List Stored) (id : List ℕ) (s : Stored) → stored_at xs id ≡ Some s → (before : List Stored) × ((after : List Stored) × (xs ≡ before ++ s ∷ after))
+standing [] id s h = absurd (cc)
+standing (x ∷ xs) id s h = by (has_id id x) h (standing xs id s)
+  where
+    by : (b : Bool) → cond b (Some x) (stored_at xs id) ≡ Some s → (stored_at xs id ≡ Some s → (before : List Stored) × ((after : List Stored) × (xs ≡ before ++ s ∷ after)))
+        → (before : List Stored) × ((after : List Stored) × (x ∷ xs ≡ before ++ s ∷ after))
+    by true t more = let same : x ≡ s = cc in ([], (xs, ap (λ y. y ∷ xs) same))
+    by false t more = let rest = more t in (x ∷ rest.0, (rest.1.0, ap (λ ys. x ∷ ys) rest.1.1))
+
+pub stored_is_ready : (xs : List Stored) (id : List ℕ) (s : Stored) → IsGraph xs → stored_at xs id ≡ Some s → is_ready xs s.event.event ≡ true
+stored_is_ready xs id s graph h =
+    let at = standing xs id s h in
+    subst (λ (ys : List Stored). is_ready ys s.event.event ≡ true) (sym at.1.1) (ready_stays at.0 (s ∷ at.1.0) s.event.event (graph.each at.0 s at.1.0 at.1.1).ready)
+
+-- ---- an event that is stored waits no longer
+
+fewer : (id : List ℕ) (xs : List CheckedEvent) → length (without id xs) ≤ length xs
+fewer id [] = omega arith
+fewer id (x ∷ xs) = let rest = fewer id xs in elim (not (is_of_id id x)) as (λ b. length (cond b (x ∷ without id xs) (without id xs)) ≤ length (x ∷ xs)) [ true ↦ omega arith | false ↦ omega arith ]
+
+one_fewer : (p : CheckedEvent → Bool) (xs : List CheckedEvent) (event : CheckedEvent) → find p xs ≡ Some event → length (without (event_id event) xs) < length xs
+one_fewer p [] event h = absurd (cc)
+one_fewer p (x ∷ xs) event h = by (p x) h (one_fewer p xs event)
+  where
+    gone : is_of_id (event_id x) x ≡ true
+    gone = (bytes_eq-Decides (event_id x) (event_id x)).1 refl
+
+    kept : (b : Bool) (n m : ℕ) → n < m → length (cond b (x ∷ without (event_id event) xs) (without (event_id event) xs)) ≤ suc (length (without (event_id event) xs))
+    kept true n m h = omega arith
+    kept false n m h = omega arith
+
+    by : (b : Bool) → cond b (Some x) (find p xs) ≡ Some event → (find p xs ≡ Some event → length (without (event_id event) xs) < length xs)
+        → length (without (event_id event) (x ∷ xs)) < length (x ∷ xs)
+    by true t more =
+        let same : x ≡ event = cc in
+        let rest = fewer (event_id x) xs in
+        let here : length (without (event_id x) (x ∷ xs)) < length (x ∷ xs) = subst (λ b. length (cond (not b) (x ∷ without (event_id x) xs) (without (event_id x) xs)) < length (x ∷ xs)) (sym gone) (omega arith) in
+        subst (λ (e : CheckedEvent). length (without (event_id e) (x ∷ xs)) < length (x ∷ xs)) same here
+    by false t more = let less = more t in let most = kept (not (is_of_id (event_id event) x)) 0 1 (omega arith) in omega arith
+
+pub advanced_waits_less : (rules : Rules) (room : RoomState) (event : CheckedEvent) → first_ready room ≡ Some event → length (advanced rules room).waiting < length room.waiting
+advanced_waits_less rules room event h =
+    subst (λ (o : Option CheckedEvent). length (with_ready rules room o).waiting < length room.waiting) (sym h) (one_fewer (λ e. is_ready room.stored e.event) room.waiting event h)
+
+-- ---- rooms that advance
+
+pub not_advanced : (rules : Rules) (room : RoomState) → IsAdvanced rules room room
+not_advanced rules room = record { times = 0; after = refl }
+
+again : (rules : Rules) (n : ℕ) (room : RoomState) → advanced rules (room_after rules room (replicate n advance)) ≡ room_after rules room (replicate (suc n) advance)
+again rules zero room = refl
+again rules (suc n) room = again rules n (advanced rules room)
+
+pub advances_on : (rules : Rules) (old now new : RoomState) → IsAdvanced rules old now → new ≡ advanced rules now → IsAdvanced rules old new
+advances_on rules old now new h e = record { times = suc h.times; after = e ∙ ap (advanced rules) h.after ∙ again rules h.times old }
+
+pub waits_less : {X : Type 0} (told : CheckedEvent → X) (rules : Rules) (room new : RoomState) → new ≡ advanced rules room → is_some (option_map told (first_ready room)) ≡ true → length new.waiting < length room.waiting
+waits_less told rules room new e h = subst (λ (r : RoomState). length r.waiting < length room.waiting) (sym e) (by (first_ready room) refl h)
+  where
+    by : (o : Option CheckedEvent) → first_ready room ≡ o → is_some (option_map told o) ≡ true → length (advanced rules room).waiting < length room.waiting
+    by (Some event) f t = advanced_waits_less rules room event f
+    by None f t = absurd (cc)

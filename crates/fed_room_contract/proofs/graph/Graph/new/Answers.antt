@@ -1,0 +1,16 @@
+use Rattle.std.proofs.Common.{sym, ap, ◌∙◌, subst, nat_cmp}
+use Rattle.std.specs.FinMap as finite
+use Rattle.std.specs.List.{position}
+use Rattle.std.specs.Cmp.Lexicographic.{slice_cmp}
+use Rattle.fed_room_contract.specs.Places.{PlaceMap, place_in, place_at}
+use Rattle.fed_room_contract.specs.Graph.{IsGraph, has_id}
+use Rattle.fed_room_contract.proofs.Graphs.{no_graph}
+use Rattle.fed_room_contract.proofs.graph.Graph.new.Goals as goal
+
+pub invariant_of-result : goal.invariant_of-result
+invariant_of-result c = record {
+  graph = subst IsGraph (sym c.new.ensures.items) no_graph;
+  entered = λ id. ap (λ (m : PlaceMap). place_at m id) c.new-2.ensures ∙ ap place_in (finite.get-empty (slice_cmp nat_cmp) id) ∙ ap (position (has_id id)) (sym c.new.ensures.items);
+  spare = tt;
+  named = tt;
+}

@@ -1,0 +1,38 @@
+-- The events that a room has stored, each with its verdict (Matrix, Server-Server API, "PDUs": events form a graph by the events that they
+-- name), found by their ids.
+use Rattle.std.specs.Prelude.{◌≡◌, ℕ, List, ◌∷◌, ◌++◌, Bool, true, false, Option, find}
+use Rattle.std.specs.List.{list_any, list_all}
+use Rattle.std.specs.Str.{bytes_eq}
+use Rattle.serde_json.specs.Data.{Data}
+use Rattle.fed_event.specs.EventId.{event_id_of}
+use Rattle.fed_event.specs.Fields.{auth_events_of, prev_events_of}
+use Rattle.fed_room_contract.specs.declared.graph.Stored.{Stored}
+
+abbrev pub id_of : Stored → List ℕ
+id_of stored = event_id_of stored.event.event
+
+abbrev pub has_id : List ℕ → Stored → Bool
+has_id id stored = bytes_eq (id_of stored) id
+
+abbrev pub stored_at : List Stored → List ℕ → Option Stored
+stored_at events id = find (has_id id) events
+
+abbrev pub is_stored : List Stored → List ℕ → Bool
+is_stored events id = list_any (has_id id) events
+
+-- the events that this one names
+abbrev pub named_by : Data → List (List ℕ)
+named_by event = prev_events_of event ++ auth_events_of event
+
+-- all that it names is stored
+abbrev pub is_ready : List Stored → Data → Bool
+is_ready events event = list_all (is_stored events) (named_by event)
+
+-- an event that comes next: it is another one than those before it, and names only these
+pub record IsNext (before : List Stored) (next : Stored) : Type 0 where
+  pub new : is_stored before (id_of next) ≡ false
+  pub ready : is_ready before next.event.event ≡ true
+
+-- each event comes next after those before it
+pub record IsGraph (events : List Stored) : Type 0 where
+  pub each : (before : List Stored) (next : Stored) (after : List Stored) → events ≡ before ++ next ∷ after → IsNext before next

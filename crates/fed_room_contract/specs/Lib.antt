@@ -1,0 +1,14 @@
+pub mod State
+pub mod StateParts
+pub mod Entry
+pub mod Rule
+pub mod Verdict
+pub mod Graph
+pub mod GraphState
+pub mod Places
+pub mod GraphParts
+pub mod Draft
+pub mod DraftParts
+pub mod Room
+pub mod Prepared
+pub mod Runs

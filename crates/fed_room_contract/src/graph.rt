@@ -1,0 +1,181 @@
+// The events that a room has stored.
+ghost use Rattle.std.specs.Prelude.{◌≡◌, ◌==◌, ◌++◌, ◌∷◌, [], Some, None, true, false, map, length, position, slice_get, option_map, IfSome, OnOk, OnErr, ◌<◌};
+
+use crate::places::Places;
+use crate::verdict::Verdict;
+use fed_event::{Checked, EventId, EventIds, Pdu};
+use fed_json::NoMemory;
+use std::alloc::Global;
+use std::marker::Model;
+
+/// An event that a room has stored, and what the room made of it.
+#[derive(Drop)]
+pub struct Stored {
+    pub event: Checked,
+    pub verdict: Verdict,
+}
+
+/// The events that a room has stored, in the order of storing: different events, each of which names only earlier ones as prev events
+/// and auth events (Server-Server API, "PDUs").
+///
+/// Contracts see it as the list of these events, and beside it the id of the event for which `reserve` has made room.
+#[derive(Drop)]
+pub struct Graph {
+    events: Vec<Stored>,
+    places: Places,
+    reserved: Option<EventId>,
+}
+
+impl Model for Graph {
+    ghost use Rattle.fed_room_contract.specs.GraphState.{GraphState, graph_code};
+    ghost use Rattle.fed_room_contract.specs.GraphParts.{graph_of, HoldsTogether};
+
+    ghost Value = { GraphState };
+
+    ghost coded = { graph_code };
+
+    ghost view = { graph_of };
+
+    ghost invariant = { HoldsTogether };
+}
+
+impl Graph {
+    ghost use Rattle.fed_event.specs.EventId.{event_id_of};
+    ghost use Rattle.fed_event.specs.EventIds.{ids_left};
+    ghost use Rattle.std.specs.List.{list_all};
+    ghost use Rattle.fed_room_contract.specs.Graph.{IsGraph, has_id, stored_at, is_stored, is_ready as is_ready_in};
+    ghost use Rattle.fed_room_contract.specs.GraphState.{with_event, with_room};
+
+    /// The graph in which nothing is stored.
+    pub fn new(alloc: Global) -> Graph
+        ensures { result ≡ record { stored = []; reserved = None } }
+    {
+        Graph {
+            events: Vec::new(alloc),
+            places: Places::new(alloc),
+            reserved: None,
+        }
+    }
+
+    /// The events, in the order of storing.
+    pub fn events(&self) -> &[Stored]
+        ensures stored { result.now ≡ self.now.stored }
+        ensures graph { IsGraph self.now.stored }
+    {
+        self.events.as_slice()
+    }
+
+    /// How many events are stored.
+    pub fn len(&self) -> usize
+        ensures { result ≡ length self.now.stored }
+    {
+        self.events.len()
+    }
+
+    /// Whether none is stored.
+    pub fn is_empty(&self) -> bool
+        ensures { result ≡ (length self.now.stored == 0) }
+    {
+        self.len() == 0
+    }
+
+    /// The event that was stored first.
+    pub fn first(&self) -> Option<&Stored>
+        ensures { option_map (λ s. s.now) result ≡ slice_get self.now.stored 0 }
+    {
+        self.at(0)
+    }
+
+    /// The event at a place, counted from 0.
+    pub fn at(&self, place: usize) -> Option<&Stored>
+        ensures { option_map (λ s. s.now) result ≡ slice_get self.now.stored place }
+    {
+        self.events.get(place)
+    }
+
+    /// The place of the event of this id, counted from 0.
+    pub fn place(&self, id: &str) -> Option<usize>
+        ensures place { result ≡ position (has_id id.now) self.now.stored }
+        ensures within { IfSome result (λ place. place < length self.now.stored) }
+    {
+        self.places.get(id)
+    }
+
+    /// The event of this id.
+    pub fn get(&self, id: &str) -> Option<&Stored>
+        ensures { option_map (λ s. s.now) result ≡ stored_at self.now.stored id.now }
+    {
+        self.at(self.place(id)?)
+    }
+
+    /// Whether the event of this id is stored.
+    pub fn contains(&self, id: &str) -> bool
+        ensures { result ≡ is_stored self.now.stored id.now }
+    {
+        self.place(id).is_some()
+    }
+
+    /// Whether all prev events and auth events of an event are stored.
+    pub fn is_ready(&self, event: &Pdu) -> bool
+        ensures { result ≡ is_ready_in self.now.stored event.now }
+    {
+        self.contains_all(event.prev_events()) && self.contains_all(event.auth_events())
+    }
+
+    /// Stores an event that is ready.
+    ///
+    /// # Errors
+    ///
+    /// `NoMemory`; then the graph is as it was, and the event is lost.
+    pub fn push(&mut self, alloc: Global, event: Checked, verdict: Verdict) -> Result<(), NoMemory>
+        requires new { is_stored self.old.stored (event_id_of event.event) ≡ false }
+        requires ready { is_ready_in self.old.stored event.event ≡ true }
+        ensures ok { OnOk result (self.new ≡ with_event self.old (record { event = event; verdict = verdict })) }
+        ensures err { OnErr result (self.new ≡ self.old) }
+    {
+        self.reserve(alloc, event.event().id())?;
+        self.push_reserved(event, verdict);
+        Ok(())
+    }
+
+    /// Makes room for the event of this id, so that `push_reserved` takes no memory, in place of the room that was made before.
+    ///
+    /// # Errors
+    ///
+    /// `NoMemory`; then the graph is as it was.
+    pub fn reserve(&mut self, alloc: Global, id: &EventId) -> Result<(), NoMemory>
+        ensures ok { OnOk result (self.new ≡ with_room self.old id.now) }
+        ensures err { OnErr result (self.new ≡ self.old) }
+    {
+        let reserved = id.copy(alloc)?;
+        self.places.make_room(alloc, id.as_str())?;
+        self.events.reserve(1)?;
+        self.reserved = Some(reserved);
+        Ok(())
+    }
+
+    /// Stores an event that is ready and that room was made for. It takes no memory.
+    pub fn push_reserved(&mut self, event: Checked, verdict: Verdict)
+        requires reserved { self.old.reserved ≡ Some (event_id_of event.event) }
+        requires new { is_stored self.old.stored (event_id_of event.event) ≡ false }
+        requires ready { is_ready_in self.old.stored event.event ≡ true }
+        ensures { self.new ≡ with_event self.old (record { event = event; verdict = verdict }) }
+    {
+        let place = self.events.len();
+        self.places.enter(event.event().id().as_str(), place);
+        self.events.push(Stored { event, verdict }).unwrap();
+        self.reserved = None;
+    }
+
+    // Whether the events of all these ids are stored.
+    fn contains_all(&self, ids: EventIds<'_>) -> bool
+        ensures { result ≡ list_all (is_stored self.now.stored) (ids_left ids.entry) }
+    {
+        for id in ids {
+            if !self.contains(id) {
+                return false;
+            }
+        }
+        true
+    }
+}

@@ -1,0 +1,55 @@
+// What holds of all states and graphs.
+ghost use Rattle.std.specs.Prelude.{◌≡◌, ◌≢◌, ℕ, List, [], ◌∷◌, ◌++◌, ◌||◌, Some, None, false, true};
+ghost use Rattle.std.specs.FinMap as finite;
+ghost use Rattle.serde_json.specs.Data.{Data};
+ghost use Rattle.fed_room_contract.specs.declared.graph.Stored.{Stored};
+ghost use Rattle.fed_room_contract.specs.State.{StateMap, StateKey, entry_at, with_entry};
+ghost use Rattle.fed_room_contract.specs.Graph.{IsGraph, IsNext, id_of, has_id, stored_at, is_stored, is_ready};
+ghost use Rattle.fed_room_contract.specs.Room.{Rules, RoomState};
+ghost use Rattle.fed_room_contract.specs.Runs.{Input, room_after};
+
+use crate::engine::RoomEngine;
+
+/// At a type and state key a state has what was laid over last there; states with the same entries are one.
+pub fn entries_of_states()
+    ensures empty { (kind key : List ℕ) → entry_at finite.empty kind key ≡ None }
+    ensures laid { (state : StateMap) (kind key id : List ℕ) → entry_at (with_entry state kind key id) kind key ≡ Some id }
+    ensures others { (state : StateMap) (kind key id : List ℕ) (other : StateKey) → other ≢ (kind, key)
+        → entry_at (with_entry state kind key id) other.0 other.1 ≡ entry_at state other.0 other.1 }
+    ensures same { (state other : StateMap) → ((kind key : List ℕ) → entry_at state kind key ≡ entry_at other kind key) → state ≡ other }
+{}
+
+/// An event that is stored stays found as more are stored, and what was ready stays ready.
+pub fn stored_events_stay()
+    ensures found { (events more : List Stored) (id : List ℕ) (stored : Stored) → stored_at events id ≡ Some stored
+        → stored_at (events ++ more) id ≡ Some stored }
+    ensures last { (events : List Stored) (next : Stored) → is_stored events (id_of next) ≡ false
+        → stored_at (events ++ next ∷ []) (id_of next) ≡ Some next }
+    ensures others { (events : List Stored) (next : Stored) (id : List ℕ) → id ≢ id_of next
+        → stored_at (events ++ next ∷ []) id ≡ stored_at events id }
+    ensures ready { (events more : List Stored) (event : Data) → is_ready events event ≡ true → is_ready (events ++ more) event ≡ true }
+{}
+
+/// A graph grows by an event that comes next, and by no other.
+pub fn graphs_grow()
+    ensures empty { IsGraph [] }
+    ensures next { (events : List Stored) (next : Stored) → IsGraph events → IsNext events next → IsGraph (events ++ next ∷ []) }
+    ensures last { (events : List Stored) (next : Stored) → IsGraph (events ++ next ∷ []) → IsNext events next }
+    ensures front { (events more : List Stored) → IsGraph (events ++ more) → IsGraph events }
+{}
+
+/// What a room has stored stays, in its order, whatever it is given.
+pub fn rooms_grow()
+    ensures stored { (rules : Rules) (room : RoomState) (inputs : List Input)
+        → (more : List Stored) × ((room_after rules room inputs).stored ≡ room.stored ++ more) }
+    ensures inputs { (rules : Rules) (room : RoomState) (inputs more : List Input)
+        → room_after rules room (inputs ++ more) ≡ room_after rules (room_after rules room inputs) more }
+{}
+
+/// The state before a stored event stays, whatever the room is given.
+pub fn states_before_stay<R: RoomEngine>()
+    ensures { (engine : R) (room : RoomState) (inputs : List Input) (id : List ℕ) (stored : Stored)
+        → IsGraph (room_after (R.rules engine) room inputs).stored → stored_at room.stored id ≡ Some stored
+        → (R.rules engine).before (room_after (R.rules engine) room inputs).stored stored.event.event
+        ≡ (R.rules engine).before room.stored stored.event.event }
+{}

@@ -1,0 +1,48 @@
+//! Rooms: their state, their graph of events, and the contract of what keeps a room.
+//!
+//! - `state`: `State`, the events that hold in a room
+//! - `entry`: `Entry`, one of its entries
+//! - `keyed`: those of one type, by state key
+//! - `rule`: `Rule`, the number of an authorization rule
+//! - `verdict`: `Verdict`, what a room makes of an event
+//! - `places`: where stored events stand
+//! - `graph`: `Graph`, the events that are stored, each with its verdict
+//! - `draft`: `Draft`, what a user wants to send
+//! - `prepared`: `Prepared`, the event that a room makes of a draft
+//! - `receipt`, `refusal`: what becomes of an event, and why none is made of a draft
+//! - `engine`: `RoomEngine`, what keeps a room
+//! - `advancing`: storing all waiting events that are ready
+//! - `laws`: what holds of all states and graphs
+#![tactic(auto)]
+
+mod advancing;
+mod draft;
+mod engine;
+mod entry;
+mod graph;
+mod keyed;
+mod laws;
+mod places;
+mod prepared;
+mod receipt;
+mod refusal;
+mod rule;
+mod state;
+#[cfg(test)]
+mod tests;
+mod verdict;
+
+pub use advancing::advance_all;
+pub use draft::Draft;
+pub use engine::RoomEngine;
+pub use entry::Entry;
+pub use graph::{Graph, Stored};
+pub use laws::{
+    entries_of_states, graphs_grow, rooms_grow, states_before_stay, stored_events_stay,
+};
+pub use prepared::Prepared;
+pub use receipt::Receipt;
+pub use refusal::Refusal;
+pub use rule::Rule;
+pub use state::State;
+pub use verdict::Verdict;

@@ -1,0 +1,61 @@
+// Events that a room has prepared.
+ghost use Rattle.std.specs.Prelude.{◌≡◌};
+ghost use Rattle.fed_event.specs.EventId.{event_id_of};
+
+use crate::state::State;
+use fed_event::{Checked, EventId};
+use std::marker::Model;
+
+/// An event that a room has made of a draft and can store, and the state before it.
+#[derive(Drop)]
+pub struct Prepared {
+    event: Checked,
+    before: State,
+    id: EventId,
+}
+
+impl Model for Prepared {
+    ghost use Rattle.std.specs.Prelude.{◌≡◌};
+    ghost use Rattle.fed_event.specs.EventId.{event_id_of};
+    ghost use Rattle.fed_room_contract.specs.Prepared.{PreparedEvent, prepared_code};
+
+    ghost Value = { PreparedEvent };
+
+    ghost coded = { prepared_code };
+
+    ghost view = { λ p. record { event = p.event; before = p.before } };
+
+    ghost invariant = { λ p. p.id ≡ event_id_of p.event.event };
+}
+
+impl Prepared {
+    /// An event, the state before it, and its id.
+    pub fn new(event: Checked, before: State, id: EventId) -> Prepared
+        requires { id ≡ event_id_of event.event }
+        ensures { result ≡ record { event = event; before = before } }
+    {
+        Prepared { event, before, id }
+    }
+
+    /// The event.
+    pub fn event(&self) -> &Checked
+        ensures { result.now ≡ self.now.event }
+    {
+        &self.event
+    }
+
+    /// The state before the event.
+    pub fn state_before(&self) -> &State
+        ensures { result.now ≡ self.now.before }
+    {
+        &self.before
+    }
+
+    /// The event, the state before it, and its id, to keep.
+    pub fn into_parts(self) -> (Checked, State, EventId)
+        ensures { result ≡ (self.event, self.before, event_id_of self.event.event) }
+    {
+        let Prepared { event, before, id } = self;
+        (event, before, id)
+    }
+}
