@@ -24,7 +24,7 @@ pub struct JsonRef<'a> {
 
 impl<'a> JsonRef<'a> {
     ghost use Rattle.std.specs.Prelude.{option_map, ◌↔◌, ◌++◌, IsTrue, IsSome, IfOk, OnOk, OnErr};
-    ghost use Rattle.serde_json.specs.Find.{as_str, as_object, get};
+    ghost use Rattle.serde_json.specs.Find.{as_bool, as_str, as_object, get};
     ghost use Rattle.fed_json.specs.CanonicalText.{canonical_text};
     ghost use Rattle.fed_json.specs.JsonRef.{seen, as_whole, as_items, as_members};
     ghost use Rattle.fed_json.specs.Items.{left};
@@ -43,6 +43,13 @@ impl<'a> JsonRef<'a> {
         ensures { option_map (λ s. s.now) result ≡ as_str (seen self.entry) }
     {
         self.value.as_str()
+    }
+
+    /// The boolean, where this is one.
+    pub fn boolean(self) -> Option<bool>
+        ensures { result ≡ as_bool (seen self.entry) }
+    {
+        self.value.as_bool()
     }
 
     /// The number, where this is one.

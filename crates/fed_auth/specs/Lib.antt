@@ -1,0 +1,14 @@
+pub mod Membership
+pub mod JoinRule
+pub mod Levels
+pub mod LevelChange
+pub mod Table
+pub mod MemberRules
+pub mod CreateRules
+pub mod PowerRules
+pub mod EventRules
+pub mod Room
+pub mod RoomParts
+pub mod Allowed
+pub mod Selection
+pub mod AuthState

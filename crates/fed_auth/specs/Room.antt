@@ -1,0 +1,74 @@
+-- What the state of a room says: the events that it names in the graph, and what the authorization rules read in them (Matrix, room
+-- version 10, "Authorization rules"). A room without a join rules event is for invited users.
+use Rattle.std.specs.Prelude.{ℕ, ℤ, int_le, List, [], Bool, ◌&&◌, Option, option_map, option_and_then, unwrap_or, is_some, codes, bytes_eq}
+use Rattle.serde_json.specs.Data.{Data}
+use Rattle.serde_json.specs.Find.{as_str, get}
+use Rattle.fed_event.specs.Tests.{holds}
+use Rattle.fed_event.specs.Fields.{content_of, kind_of, prev_events_of, sender_of, state_key_of}
+use Rattle.fed_event.specs.EventId.{event_id_of}
+use Rattle.fed_event.specs.Checked.{authorising_user_of}
+use Rattle.fed_room_contract.specs.declared.graph.Stored.{Stored}
+use Rattle.fed_room_contract.specs.State.{StateMap, entry_at}
+use Rattle.fed_room_contract.specs.Graph.{stored_at}
+use Rattle.fed_auth.specs.declared.membership.Membership.{Membership}
+use Rattle.fed_auth.specs.declared.membership.Membership.TheVariants.{Other}
+use Rattle.fed_auth.specs.declared.join_rule.JoinRule.{JoinRule}
+use Rattle.fed_auth.specs.declared.join_rule.JoinRule.TheVariants.{Invite}
+use Rattle.fed_auth.specs.declared.member_rules.MemberFacts.{MemberFacts}
+use Rattle.fed_auth.specs.Levels.{LevelsGiven, user_level, invite_level, kick_level, ban_level}
+use Rattle.fed_auth.specs.Membership.{membership_in, is_joined}
+use Rattle.fed_auth.specs.JoinRule.{join_rule_in}
+use Rattle.fed_auth.specs.EventRules.{is_only}
+
+-- the event, where there is one, that holds at a type and a state key
+abbrev pub Look : Type 0
+Look = List ℕ → List ℕ → Option Data
+
+-- the one that the state names and the graph has
+unfoldable pub event_in : List Stored → StateMap → Look
+event_in events state kind key = option_map (λ stored. stored.event.event) (option_and_then (stored_at events) (entry_at state kind key))
+
+abbrev pub creator_in : Data → Option (List ℕ)
+creator_in create = option_and_then as_str (get (codes "creator") (content_of create))
+
+module _ (look : Look) where
+  abbrev pub create_event : Option Data
+  create_event = look (codes "m.room.create") []
+
+  abbrev pub power_content : Option Data
+  power_content = option_map content_of (look (codes "m.room.power_levels") [])
+
+  unfoldable pub room_levels : LevelsGiven
+  room_levels = record { content = power_content; creator = option_and_then creator_in create_event }
+
+  unfoldable pub membership_of : List ℕ → Membership
+  membership_of user = unwrap_or (option_map (λ event. membership_in (content_of event)) (look (codes "m.room.member") user)) Other
+
+  unfoldable pub room_join_rule : JoinRule
+  room_join_rule = unwrap_or (option_map (λ event. join_rule_in (content_of event)) (look (codes "m.room.join_rules") [])) Invite
+
+  -- the event names a user that is joined and has the level to invite
+  unfoldable pub is_authorised_in : LevelsGiven → Data → Bool
+  is_authorised_in levels event =
+      holds (λ user. is_joined (membership_of user) && int_le (invite_level levels) (user_level levels user)) (authorising_user_of event)
+
+-- the event follows the create event alone, and its target is the creator
+unfoldable pub is_first_join : Data → Data → List ℕ → Bool
+is_first_join create event target = is_only (event_id_of create) (prev_events_of event) && holds (bytes_eq target) (creator_in create)
+
+-- what the rules on a member event look at
+unfoldable pub facts_of : Look → LevelsGiven → Data → Data → List ℕ → MemberFacts
+facts_of look levels create event target = record {
+  sender = membership_of look (sender_of event);
+  target = membership_of look target;
+  is_own = bytes_eq (sender_of event) target;
+  is_first = is_first_join create event target;
+  is_authorised = is_authorised_in look levels event;
+  is_third_party = is_some (get (codes "third_party_invite") (content_of event));
+  join_rule = room_join_rule look;
+  sender_level = user_level levels (sender_of event);
+  target_level = user_level levels target;
+  invite_level = invite_level levels;
+  kick_level = kick_level levels;
+  ban_level = ban_level levels;
+}

@@ -1,0 +1,44 @@
+//! Which events a room allows: the authorization rules of room version 10.
+//!
+//! - `rules`: whether a room allows an event
+//! - `selected`: the auth events that an event has
+//! - `auth_events`: what rule 2 makes of the auth events of an event
+//! - `laws`: what holds of all selections
+//! - `levels`: power levels, as the state of a room gives them
+//! - `membership`: what a member event makes of a user
+//! - `join_rule`: who may join
+//! - `create_rules`: what rule 1 makes of a create event
+//! - `member_rules`: what rule 4 makes of a member event, by its membership
+//! - `power_rules`: what rule 9 makes of a power levels event
+//! - `level_change`: what a power levels event may change
+//! - `room`: what the state of a room says
+//! - `event_rules`: conditions on an event alone
+#![tactic(auto)]
+
+mod auth_events;
+mod create_rules;
+mod event_rules;
+mod join_rule;
+mod laws;
+mod level_change;
+mod levels;
+mod member_rules;
+mod membership;
+mod power_rules;
+mod room;
+mod rules;
+mod selected;
+#[cfg(test)]
+mod tests;
+#[cfg(test)]
+mod tests_auth;
+#[cfg(test)]
+mod tests_room;
+
+pub use auth_events::auth_state;
+pub use join_rule::JoinRule;
+pub use laws::what_is_selected;
+pub use levels::Levels;
+pub use membership::{Membership, authorising_user};
+pub use rules::allowed;
+pub use selected::selection;

@@ -1,0 +1,130 @@
+// What the state of a room says.
+ghost use Rattle.std.specs.Prelude.{◌≡◌, Some, option_map};
+ghost use Rattle.fed_json.specs.JsonRef.{seen};
+
+use crate::event_rules::is_only;
+use crate::join_rule::JoinRule;
+use crate::levels::Levels;
+use crate::member_rules::MemberFacts;
+use crate::membership::{Membership, authorising_user};
+use fed_event::Pdu;
+use fed_json::JsonRef;
+use fed_room_contract::{Graph, State};
+
+// A state, and the graph that has the events that it names.
+#[derive(Clone, Copy)]
+pub(crate) struct Room<'a> {
+    pub graph: &'a Graph,
+    pub state: &'a State,
+}
+
+impl<'a> Room<'a> {
+    ghost use Rattle.fed_auth.specs.Room.{event_in, create_event, power_content, room_levels, membership_of, room_join_rule, is_authorised_in, facts_of};
+    ghost use Rattle.fed_auth.specs.RoomParts.{look_of};
+
+    // The event that the state names at this type and state key.
+    #[tactic(auto, unfolding(crate::specs::Room::event_in))]
+    pub(crate) fn event(self, kind: &str, state_key: &str) -> Option<&'a Pdu>
+        ensures { option_map (λ event. event.now) result ≡ look_of self.entry kind.now state_key.now }
+    {
+        let id = self.state.get(kind, state_key)?;
+        let stored = self.graph.get(id.as_str())?;
+        Some(stored.event.event())
+    }
+
+    pub(crate) fn create(self) -> Option<&'a Pdu>
+        ensures { option_map (λ event. event.now) result ≡ create_event (look_of self.entry) }
+    {
+        self.event("m.room.create", "")
+    }
+
+    // The content of the power levels event.
+    pub(crate) fn power_levels(self) -> Option<JsonRef<'a>>
+        ensures { option_map seen result ≡ power_content (look_of self.entry) }
+    {
+        Some(self.event("m.room.power_levels", "")?.content())
+    }
+
+    // The levels of users and events, where this is the create event.
+    #[tactic(auto, unfolding(crate::specs::Room::room_levels))]
+    pub(crate) fn levels(self, create: &'a Pdu) -> Levels<'a>
+        requires { create_event (look_of self) ≡ Some create.now }
+        ensures { result ≡ room_levels (look_of self.entry) }
+    {
+        Levels::new(self.power_levels(), creator(create))
+    }
+
+    pub(crate) fn membership(self, user: &str) -> Membership
+        ensures { result ≡ membership_of (look_of self.entry) user.now }
+    {
+        match self.event("m.room.member", user) {
+            Some(event) => Membership::of_content(event.content()),
+            None => Membership::Other,
+        }
+    }
+
+    fn join_rule(self) -> JoinRule
+        ensures { result ≡ room_join_rule (look_of self.entry) }
+    {
+        match self.event("m.room.join_rules", "") {
+            Some(event) => JoinRule::of_content(event.content()),
+            None => JoinRule::Invite,
+        }
+    }
+
+    // Whether the event names a user that is joined and has the level to invite.
+    #[tactic(auto, unfolding(crate::specs::Room::is_authorised_in))]
+    fn is_authorised(self, levels: &Levels<'_>, event: &Pdu) -> bool
+        ensures { result ≡ is_authorised_in (look_of self.entry) levels.now event.now }
+    {
+        match authorising_user(event) {
+            Some(user) => self.membership(user).is_joined() && levels.invite() <= levels.user(user),
+            None => false,
+        }
+    }
+
+    // What the rules on a member event look at, whose target is this user.
+    #[tactic(auto, unfolding(crate::specs::Room::facts_of))]
+    pub(crate) fn facts(
+        self,
+        levels: &Levels<'_>,
+        create: &Pdu,
+        event: &Pdu,
+        target: &str,
+    ) -> MemberFacts
+        ensures { result ≡ facts_of (look_of self.entry) levels.now create.now event.now target.now }
+    {
+        let sender = event.sender();
+        MemberFacts {
+            sender: self.membership(sender),
+            target: self.membership(target),
+            is_own: sender == target,
+            is_first: is_first_join(create, event, target),
+            is_authorised: self.is_authorised(levels, event),
+            is_third_party: event.content().member("third_party_invite").is_some(),
+            join_rule: self.join_rule(),
+            sender_level: levels.user(sender),
+            target_level: levels.user(target),
+            invite_level: levels.invite(),
+            kick_level: levels.kick(),
+            ban_level: levels.ban(),
+        }
+    }
+}
+
+ghost use Rattle.fed_auth.specs.Room.{creator_in, is_first_join};
+
+// The creator that a create event names.
+fn creator(create: &Pdu) -> Option<&str>
+    ensures { option_map (λ s. s.now) result ≡ creator_in create.now }
+{
+    create.content().member("creator")?.text()
+}
+
+// Whether the event follows the create event alone, and its target is the creator.
+#[tactic(auto, unfolding(crate::specs::Room::is_first_join))]
+fn is_first_join(create: &Pdu, event: &Pdu, target: &str) -> bool
+    ensures { result ≡ is_first_join create.now event.now target.now }
+{
+    is_only(create.id(), event.prev_events()) && creator(create) == Some(target)
+}
