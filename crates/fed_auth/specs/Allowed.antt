@@ -1,9 +1,8 @@
 -- Whether a room allows an event (Matrix, room version 10, "Authorization rules"): the rules in their order, by the state of the room
 -- and the id of its first event. The first that holds decides. Rule 2, on the auth events, is apart, but that a state without a create
 -- event allows nothing but a create event.
-use Rattle.std.specs.Prelude.{ℕ, ℤ, int_lt, int_le, List, [], ◌∷◌, Bool, true, not, ⊤, Option, Result, option_map, unwrap_or, is_none, slice_get, codes, bytes_eq}
+use Rattle.std.specs.Prelude.{ℕ, ℤ, int_lt, List, [], ◌∷◌, Bool, true, not, ⊤, Option, Result, option_map, unwrap_or, is_none, slice_get, codes, bytes_eq}
 use Rattle.serde_json.specs.Data.{Data, null}
-use Rattle.fed_event.specs.Tests.{holds}
 use Rattle.fed_event.specs.Fields.{content_of, kind_of, sender_of, state_key_of}
 use Rattle.fed_event.specs.Checked.{CheckedEvent}
 use Rattle.fed_room_contract.specs.declared.rule.Rule.{Rule}

@@ -1,6 +1,6 @@
 -- Power levels (Matrix, Client-Server API, "m.room.power_levels"; room version 10, "Authorization rules"). A level is a whole number;
 -- what stands at the place of one and is none counts as missing.
-use Rattle.std.specs.Prelude.{ℕ, ℤ, pos, List, Option, Some, None, codes, bytes_eq, is_some, if◌then◌else◌, option_map, option_and_then, unwrap_or, refl}
+use Rattle.std.specs.Prelude.{ℕ, ℤ, pos, List, Option, codes, bytes_eq, is_some, if◌then◌else◌, option_and_then, unwrap_or, refl}
 use Rattle.std.specs.Coded.{Coded, code_by, coded×, coded_ℕ, coded_list, coded_option}
 use Rattle.serde_json.specs.Data.{Data}
 use Rattle.serde_json.specs.Find.{get}

@@ -1,10 +1,10 @@
 -- What the state of a room says: the events that it names in the graph, and what the authorization rules read in them (Matrix, room
 -- version 10, "Authorization rules"). A room without a join rules event is for invited users.
-use Rattle.std.specs.Prelude.{ℕ, ℤ, int_le, List, [], Bool, ◌&&◌, Option, option_map, option_and_then, unwrap_or, is_some, codes, bytes_eq}
+use Rattle.std.specs.Prelude.{ℕ, int_le, List, [], Bool, ◌&&◌, Option, option_map, option_and_then, unwrap_or, is_some, codes, bytes_eq}
 use Rattle.serde_json.specs.Data.{Data}
 use Rattle.serde_json.specs.Find.{as_str, get}
 use Rattle.fed_event.specs.Tests.{holds}
-use Rattle.fed_event.specs.Fields.{content_of, kind_of, prev_events_of, sender_of, state_key_of}
+use Rattle.fed_event.specs.Fields.{content_of, prev_events_of, sender_of}
 use Rattle.fed_event.specs.EventId.{event_id_of}
 use Rattle.fed_event.specs.Checked.{authorising_user_of}
 use Rattle.fed_room_contract.specs.declared.graph.Stored.{Stored}

@@ -8,7 +8,7 @@ use Rattle.fed_event.specs.Fields.{content_of, kind_of, sender_of, state_key_of}
 use Rattle.fed_event.specs.Checked.{authorising_user_of}
 use Rattle.fed_room_contract.specs.State.{StateKey, StateMap, entry_at}
 use Rattle.fed_auth.specs.declared.membership.Membership.{Membership}
-use Rattle.fed_auth.specs.declared.membership.Membership.TheVariants.{Join, Invite, Leave, Ban, Knock, Other}
+use Rattle.fed_auth.specs.declared.membership.Membership.TheVariants.{Join, Invite, Knock}
 use Rattle.fed_auth.specs.Membership.{membership_in}
 
 abbrev pub is_member_event : Data → Bool

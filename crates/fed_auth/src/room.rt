@@ -1,6 +1,7 @@
 // What the state of a room says.
 ghost use Rattle.std.specs.Prelude.{◌≡◌, Some, option_map};
 ghost use Rattle.fed_json.specs.JsonRef.{seen};
+ghost use Rattle.fed_auth.specs.Room.{creator_in, is_first_join};
 
 use crate::event_rules::is_only;
 use crate::join_rule::JoinRule;
@@ -111,8 +112,6 @@ impl<'a> Room<'a> {
         }
     }
 }
-
-ghost use Rattle.fed_auth.specs.Room.{creator_in, is_first_join};
 
 // The creator that a create event names.
 fn creator(create: &Pdu) -> Option<&str>

@@ -228,3 +228,28 @@ fn takes_apart_and_puts_together(rt: HostRuntime) -> Result<(), Fail> {
     );
     Ok(())
 }
+
+#[test]
+fn makes_values(rt: HostRuntime) -> Result<(), Fail> {
+    let alloc = rt.alloc();
+    let empty = canonical(alloc, &Json::empty_array(alloc))?;
+    assert_eq!(rt; empty.as_slice(), b"[]".as_slice());
+    let seven = canonical(alloc, &Json::from_whole(7))?;
+    assert_eq!(rt; seven.as_slice(), b"7".as_slice());
+    Ok(())
+}
+
+#[test]
+fn tells_booleans(rt: HostRuntime) -> Result<(), Fail> {
+    let alloc = rt.alloc();
+    for (text, told) in [
+        ("true", Some(true)),
+        ("false", Some(false)),
+        ("0", None),
+        ("null", None),
+        ("\"true\"", None),
+    ] {
+        assert_eq!(rt; read(alloc, text.as_bytes())?.root().boolean(), told);
+    }
+    Ok(())
+}

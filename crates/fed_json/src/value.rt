@@ -1,6 +1,6 @@
 // A value that owns its parts.
-ghost use Rattle.std.specs.Prelude.{◌≡◌, ℕ, ◌↔◌, IsTrue, ◌<◌, ◌≤◌, IfOk, OnOk, OnErr, IsSome, Some, string_bytes, option_map, map};
-ghost use Rattle.serde_json.specs.Data.{depth, string, object, no_members, put};
+ghost use Rattle.std.specs.Prelude.{◌≡◌, ℕ, ◌↔◌, IsTrue, ◌<◌, ◌≤◌, ◌^◌, IfOk, OnOk, OnErr, IsSome, Some, string_bytes, option_map, map};
+ghost use Rattle.serde_json.specs.Data.{depth, unsigned, number, string, array, no_items, object, no_members, put};
 ghost use Rattle.serde_json.specs.Read.{max_depth};
 ghost use Rattle.serde_json.specs.Find.{as_str, as_object, get, get_member};
 ghost use Rattle.fed_json.specs.JsonRef.{seen, as_whole, as_items, as_members};
@@ -49,6 +49,25 @@ impl Json {
     {
         Json {
             value: Value::Object(Map::new(alloc)),
+        }
+    }
+
+    /// An array without items.
+    pub fn empty_array(alloc: Global) -> Json
+        ensures { result ≡ array no_items }
+    {
+        Json {
+            value: Value::Array(Vec::new(alloc)),
+        }
+    }
+
+    /// A whole number from 0 to 2^53-1.
+    pub fn from_whole(whole: u64) -> Json
+        requires { whole < 2 ^ 53 }
+        ensures { result ≡ number (unsigned whole) }
+    {
+        Json {
+            value: Value::from(whole),
         }
     }
 

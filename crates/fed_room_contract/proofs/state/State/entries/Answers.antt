@@ -1,6 +1,5 @@
-use Rattle.std.proofs.Common.{◌≡◌, ◌++◌, ℕ, List, [], sym, ap, ◌∙◌, map, rules}
+use Rattle.std.proofs.Common.{◌≡◌, ◌++◌, sym, ap, ◌∙◌, map, rules}
 use Rattle.std.specs.FinMap as finite
-use Rattle.fed_json.specs.TextMap.{TextMap}
 use Rattle.fed_json.proofs.TextMaps.{entries-text_map, entry_seen}
 use Rattle.fed_room_contract.specs.State.{StateMap}
 use Rattle.fed_room_contract.specs.Entry.{seen}

@@ -1,0 +1,5 @@
+pub mod Table
+pub mod Parts
+pub mod Made
+pub mod TableRoom
+pub mod Bearing

@@ -1,0 +1,23 @@
+-- The event that the own server makes of a draft, and why it makes none.
+use Rattle.std.specs.Prelude.{List, Option, Some, None, Result, Ok, Err, if◌then◌else◌}
+use Rattle.serde_json.specs.Data.{Data}
+use Rattle.fed_event.specs.declared.fault.PduFault.{PduFault}
+use Rattle.fed_event.specs.Checked.{CheckedEvent, checked_of}
+use Rattle.fed_event.specs.Tests.{first_fault_of}
+use Rattle.fed_room_contract.specs.declared.refusal.Refusal.{Refusal}
+use Rattle.fed_room_contract.specs.declared.refusal.Refusal.TheVariants.{NotOwnUser, BadDraft}
+use Rattle.fed_room_contract.specs.Draft.{DraftFields}
+use Rattle.fed_room_contract.specs.Prepared.{Signer, is_own_user, sealed_by}
+use Rattle.fed_room.specs.Parts.{parts_of}
+
+module _ (signer : Signer) where
+  -- what is sealed has to pass the tests of an event
+  abbrev pub if_passes : Data → Option PduFault → Result CheckedEvent Refusal
+  if_passes sealed (Some fault) = Err (BadDraft fault)
+  if_passes sealed None = Ok (checked_of signer.checks sealed)
+
+  abbrev pub made_of : DraftFields → Result CheckedEvent Refusal
+  made_of draft =
+      if is_own_user signer draft.sender
+      then if_passes (sealed_by signer (parts_of draft)) (first_fault_of (sealed_by signer (parts_of draft)))
+      else Err NotOwnUser

@@ -1,0 +1,40 @@
+-- Verdicts on events and the states before them, by the ids of the events, and a current state.
+use Rattle.std.specs.Prelude.{ℕ, List, Option, Some, None, refl}
+use Rattle.std.specs.Coded.{Coded, code_by, coded×}
+use Rattle.std.specs.FinMap as finite
+use Rattle.fed_json.specs.TextMap.{TextMap, text_map_code}
+use Rattle.fed_room_contract.specs.declared.verdict.Verdict.{Verdict}
+use Rattle.fed_room_contract.specs.declared.verdict.Verdict.TheVariants.{Accepted}
+use Rattle.fed_room_contract.specs.State.{StateMap, state_code}
+use Rattle.fed_room_contract.specs.Verdict.{verdict_code}
+use Rattle.fed_room.specs.declared.table.Row.{Row}
+
+abbrev row_code : Coded Row
+row_code = code_by (Verdict × StateMap) (coded× verdict_code state_code) (λ r. (r.verdict, r.before)) (λ p. record { verdict = p.0; before = p.1 }) (λ _. refl)
+
+pub record TableState : Type 0 where
+  pub rows : TextMap Row
+  pub current : StateMap
+
+abbrev pub table_code : Coded TableState
+table_code = code_by (TextMap Row × StateMap) (coded× (text_map_code row_code) state_code) (λ t. (t.rows, t.current)) (λ p. record { rows = p.0; current = p.1 }) (λ _. refl)
+
+-- an event without a row is accepted
+abbrev pub verdict_in : Option Row → Verdict
+verdict_in None = Accepted
+verdict_in (Some row) = row.verdict
+
+-- nothing holds before it
+abbrev pub before_in : Option Row → StateMap
+before_in None = finite.empty
+before_in (Some row) = row.before
+
+abbrev pub verdict_at : TableState → List ℕ → Verdict
+verdict_at table id = verdict_in (finite.get table.rows id)
+
+abbrev pub before_at : TableState → List ℕ → StateMap
+before_at table id = before_in (finite.get table.rows id)
+
+-- with this row for the event, in the place of the one that was there
+abbrev pub with_row : TableState → List ℕ → Row → TableState
+with_row table id row = record { rows = finite.insert table.rows id row; current = table.current }
