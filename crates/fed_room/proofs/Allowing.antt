@@ -1,5 +1,5 @@
 -- What is prepared of the event that is made of a draft.
-use Rattle.std.proofs.Common.{◌≡◌, List, Bool, true, false, if◌then◌else◌, Option, Some, None, Result, Ok, Err, ap}
+use Rattle.std.proofs.Common.{◌≡◌, List, Bool, true, false, if◌then◌else◌, Option, Some, None, Ok, Err, ap}
 use Rattle.fed_event.specs.declared.fault.PduFault.{PduFault}
 use Rattle.fed_event.specs.Checked.{CheckedEvent, checked_of}
 use Rattle.fed_event.specs.Tests.{first_fault_of}

@@ -1,5 +1,5 @@
 -- What is sealed of a draft.
-use Rattle.std.proofs.Common.{◌≡◌, ◌<◌, ◌≤◌, ℕ, suc, List, [], ◌∷◌, ◌++◌, max, Bool, true, false, ◌&&◌, cond, if◌then◌else◌, Ordering, Less, Equal, Greater, nat_cmp, find, Option, Some, None, IfSome, Err, arith, codes, refl, sym, ap, ◌∙◌, subst}
+use Rattle.std.proofs.Common.{◌≡◌, ◌<◌, ◌≤◌, ℕ, List, [], ◌∷◌, ◌++◌, max, Bool, true, false, ◌&&◌, cond, if◌then◌else◌, Ordering, Less, Equal, Greater, nat_cmp, find, Option, Some, None, Err, arith, codes, refl, ap, ◌∙◌, subst}
 use Rattle.std.proofs.Math.Nat.{le_trans, le-max_left, le-max_right}
 use Rattle.std.proofs.lemmas.Bool.{lt-ltb}
 use Rattle.std.proofs.lemmas.Slice.Eq.{bytes_eq-Decides}

@@ -1,5 +1,5 @@
 -- The event that is made of a draft has its fields.
-use Rattle.std.proofs.Common.{◌≡◌, ◌≤◌, ◌^◌, ℕ, List, Option, Some, None, Bool, true, false, true≢false, nat_lt, refl, sym, ap, if◌then◌else◌, unwrap_or}
+use Rattle.std.proofs.Common.{◌≡◌, ◌≤◌, ◌^◌, ℕ, List, Option, Some, None, Bool, true, false, true≢false, nat_lt, refl, sym, if◌then◌else◌, unwrap_or}
 use Rattle.std.specs.Prelude.{pos}
 use Rattle.std.proofs.Math.Nat.{le_trans}
 use Rattle.std.proofs.lemmas.Bool.{ltb-false, le-leb}

@@ -1,4 +1,4 @@
-use Rattle.std.proofs.Common.{◌≡◌, ◌<◌, true, string_bytes, rules, arith, sym, ap, ◌∙◌, subst}
+use Rattle.std.proofs.Common.{◌≡◌, ◌<◌, true, rules, arith, sym, ap, ◌∙◌, subst}
 use Rattle.serde_json.specs.Data.{Data, depth}
 use Rattle.fed_event.specs.Sealing.{IsSentBy}
 use Rattle.fed_room_contract.specs.Draft.{DraftFields}

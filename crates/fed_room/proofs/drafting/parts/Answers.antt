@@ -1,6 +1,5 @@
-use Rattle.std.proofs.Common.{◌≡◌, List, string_bytes, option_map, refl, ap, ◌∙◌}
+use Rattle.std.proofs.Common.{◌≡◌, string_bytes, option_map, refl, ap, ◌∙◌}
 use Rattle.std.proofs.lemmas.Result.{IfOk-weaker}
-use Rattle.fed_room_contract.specs.Draft.{DraftFields}
 use Rattle.fed_room_contract.specs.DraftParts.{fields_of as draft_of}
 use Rattle.fed_room.specs.Parts.{fields_of, with_state_key, parts_of}
 use Rattle.fed_room.proofs.Made.{step}

@@ -1,9 +1,7 @@
 use Rattle.std.proofs.Common.{ap}
-use Rattle.std.specs.FinMap as finite
 use Rattle.fed_json.proofs.TextMaps.{text_map-none}
 use Rattle.fed_json.specs.TextMap.{TextMap}
 use Rattle.fed_room.specs.declared.table.Row.{Row}
-use Rattle.fed_room.specs.Table.{TableState}
 use Rattle.fed_room.proofs.table.Table.new.Goals as goal
 
 pub returns : goal.returns

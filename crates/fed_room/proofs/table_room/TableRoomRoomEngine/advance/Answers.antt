@@ -1,14 +1,13 @@
-use Rattle.std.proofs.Common.{◌≡◌, ℕ, List, find, Option, Some, option_map, sym, ap, ◌∙◌}
+use Rattle.std.proofs.Common.{◌≡◌, ℕ, List, find, Some, option_map, sym, ap, ◌∙◌}
 use Rattle.fed_event.specs.EventId.{event_id_of}
 use Rattle.fed_event.specs.Checked.{CheckedEvent}
-use Rattle.fed_room_contract.specs.declared.receipt.Receipt.{Receipt}
 use Rattle.fed_room_contract.specs.declared.receipt.Receipt.TheVariants as receipt
 use Rattle.fed_room_contract.specs.declared.verdict.Verdict.{Verdict}
 use Rattle.fed_room_contract.specs.declared.graph.Stored.{Stored}
 use Rattle.fed_room_contract.specs.Graph.{is_stored, is_ready}
 use Rattle.fed_room_contract.specs.GraphState.{GraphState}
 use Rattle.fed_room_contract.specs.Room.{event_id, first_ready, with_stored, with_ready}
-use Rattle.fed_room.specs.Table.{TableState, verdict_at}
+use Rattle.fed_room.specs.Table.{verdict_at}
 use Rattle.fed_room.specs.TableRoom.{TableRoomState, room_of, rules_of}
 use Rattle.fed_room.proofs.Apart.{found_passes, found_apart}
 use Rattle.fed_room.proofs.table_room.TableRoomRoomEngine.advance.Goals as goal

@@ -3,7 +3,6 @@ use Rattle.fed_event.specs.EventId.{event_id_of}
 use Rattle.fed_room_contract.specs.Graph.{is_ready}
 use Rattle.fed_room_contract.specs.GraphState.{GraphState}
 use Rattle.fed_room_contract.specs.declared.refusal.Refusal.TheVariants.{NotAllowed}
-use Rattle.fed_room_contract.specs.declared.verdict.Verdict.TheVariants.{Accepted, Rejected, SoftFailed}
 use Rattle.fed_room_contract.specs.State.{StateMap}
 use Rattle.fed_room_contract.specs.Prepared.{PreparedEvent, signer_of, if_accepted, prepared_of}
 use Rattle.fed_room_contract.specs.Room.{event_id}
