@@ -4,7 +4,7 @@ use Rattle.std.specs.Prelude.{IsErrAnd}
 use Rattle.std.specs.List.{position_from}
 use Rattle.std.specs.Io.KnownBytes.{Appends}
 use Rattle.fed_event.specs.Checked.{CheckedEvent}
-use Rattle.fed_event.specs.Keys.{trusting_checks}
+use Rattle.fed_event.specs.Trusting.{trusting_checks}
 use Rattle.fed_inbox.specs.Inbox.{InboxState}
 use Rattle.fed_inbox.specs.Reply.{Answer}
 use Rattle.fed_inbox.specs.Answer.{Request, IsAnswered}

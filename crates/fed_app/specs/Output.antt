@@ -1,7 +1,7 @@
 -- The text of the answers.
 use Rattle.std.specs.Prelude.{ℕ, List, ◌++◌, Bool, Option, codes, decimal}
 use Rattle.std.specs.List.{flat_map}
-use Rattle.fed_event.specs.Keys.{trusting_checks}
+use Rattle.fed_event.specs.Trusting.{trusting_checks}
 use Rattle.fed_inbox.specs.Inbox.{InboxState}
 use Rattle.fed_inbox.specs.Reply.{Answer}
 use Rattle.fed_inbox.specs.Answer.{Request}

@@ -34,6 +34,10 @@ abbrev pub has_double : List Stored → Bool
 has_double [] = false
 has_double (one ∷ others) = list_any (are_alike one) others || has_double others
 
+-- an auth event of this type and state key
+unfoldable pub stands_at : List ℕ → List ℕ → Stored → Bool
+stands_at kind key auth = bytes_eq kind (kind_in auth) && option_eq bytes_eq (Some key) (state_key_in auth)
+
 -- an event without a state key is never selected
 unfoldable pub is_outside_selection : Data → Stored → Bool
 is_outside_selection event auth = not (holds (is_selected event (kind_in auth)) (state_key_in auth))

@@ -3,7 +3,7 @@
 //! - `rules`: whether a room allows an event
 //! - `selected`: the auth events that an event has
 //! - `auth_events`: what rule 2 makes of the auth events of an event
-//! - `laws`: what holds of all selections
+//! - `laws`: what holds of all selections and auth states
 //! - `levels`: power levels, as the state of a room gives them
 //! - `membership`: what a member event makes of a user
 //! - `join_rule`: who may join
@@ -28,16 +28,10 @@ mod power_rules;
 mod room;
 mod rules;
 mod selected;
-#[cfg(test)]
-mod tests;
-#[cfg(test)]
-mod tests_auth;
-#[cfg(test)]
-mod tests_room;
 
 pub use auth_events::auth_state;
 pub use join_rule::JoinRule;
-pub use laws::what_is_selected;
+pub use laws::{what_an_auth_state_has, what_is_selected};
 pub use levels::Levels;
 pub use membership::{Membership, authorising_user};
 pub use rules::allowed;

@@ -23,7 +23,8 @@ use Rattle.fed_event.specs.Ids.{domain_of, is_id_text}
 use Rattle.fed_event.specs.Redaction.{event_keys, redacted}
 use Rattle.fed_event.specs.EventId.{unsigned_keys, signed_part, signed_text_of}
 use Rattle.fed_event.specs.ContentHash.{uncovered_keys, content_hash_of, given_hash_of, hash_fits_of}
-use Rattle.fed_event.specs.Signatures.{Checks, signature_in, signatures_by, is_signed_by, is_signed}
+use Rattle.fed_keys.specs.Keys.{Checks}
+use Rattle.fed_event.specs.Signatures.{signature_in, signatures_by, is_signed_by, is_signed}
 use Rattle.fed_event.specs.Checked.{CheckedEvent, checked_of}
 use Rattle.fed_event.specs.Sealing.{sender_text, IsSentBy, holding, hashed_of, signature_text_of, sealed_of}
 use Rattle.fed_event.specs.Laws.{AreUnsigned}

@@ -10,7 +10,8 @@ use Rattle.fed_event.specs.Ids.{domain_of}
 use Rattle.fed_event.specs.Fields.{content_of}
 use Rattle.fed_event.specs.Redaction.{redacted}
 use Rattle.fed_event.specs.ContentHash.{hash_fits_of}
-use Rattle.fed_event.specs.Signatures.{Checks, is_signed_by}
+use Rattle.fed_keys.specs.Keys.{Checks}
+use Rattle.fed_event.specs.Signatures.{is_signed_by}
 
 -- the event, and whether the server of the user that authorises its join has signed it
 pub record CheckedEvent : Type 0 where

@@ -12,6 +12,7 @@ pub mod EventIds
 pub mod ContentHash
 pub mod Signatures
 pub mod Checked
-pub mod Keys
 pub mod CheckVerdict
 pub mod Sealing
+pub use Rattle.fed_keys.specs.Keys
+pub use Rattle.fed_keys.specs.Trusting

@@ -7,14 +7,11 @@ use Rattle.base64.specs.GeneralPurpose.{decoded_of}
 use Rattle.serde_json.specs.Data.{Data}
 use Rattle.serde_json.specs.Find.{as_str, get}
 use Rattle.fed_json.specs.JsonRef.{as_members}
+use Rattle.fed_keys.specs.Keys.{Checks}
 use Rattle.fed_event.specs.Tests.{holds}
 use Rattle.fed_event.specs.Ids.{domain_of}
 use Rattle.fed_event.specs.Fields.{sender_of, signatures_of}
 use Rattle.fed_event.specs.EventId.{signed_text_of}
-
--- whether a signature of a message is one of a server's key: server, key, message, signature
-abbrev pub Checks : Type 0
-Checks = List ℕ → List ℕ → List ℕ → List ℕ → Bool
 
 -- the 64 bytes of a signature, where it decodes to so many
 abbrev pub signature_in : Data → Option (List ℕ)

@@ -5,16 +5,17 @@ ghost use Rattle.fed_event.specs.declared.checked.CheckFault.TheVariants.{Memory
 ghost use Rattle.fed_event.specs.Redaction.{redacted};
 ghost use Rattle.fed_event.specs.EventId.{signed_text_of, event_id_of};
 ghost use Rattle.fed_event.specs.ContentHash.{hash_fits_of};
-ghost use Rattle.fed_event.specs.Signatures.{Checks, is_signed as is_signed_by_sender};
+ghost use Rattle.fed_keys.specs.Keys.{Checks};
+ghost use Rattle.fed_event.specs.Signatures.{is_signed as is_signed_by_sender};
 ghost use Rattle.fed_event.specs.Checked.{authorising_user_of, is_authorised as is_authorised_by, checked_of};
 ghost use Rattle.fed_event.specs.CheckVerdict.{check_verdict_of};
 
 use crate::ids::domain;
-use crate::keys::Keys;
 use crate::pdu::Pdu;
 use crate::signature::is_signed_by;
 use crate::signed::signed_text;
 use fed_json::NoMemory;
+use fed_keys::Keys;
 use std::alloc::Global;
 use std::marker::Model;
 use thiserror::Error;

@@ -9,8 +9,7 @@
 //! - `event_ids`: `EventIds`, the ids of events in a field, one after another
 //! - `validity`: the tests
 //! - `checked`: `Checked`, an event that has passed the checks on receipt
-//! - `keys`: `Keys`, what signs and checks signatures, and two stand-ins for it
-//! - `signature`: the signatures of an event
+//! - `signature`: the signatures of an event; `Keys`, from `fed_keys`, signs and checks them
 //! - `sealing`: events that the own server makes
 //! - `hash`: the content hash of an event
 //! - `ids`: the parts of identifiers
@@ -28,7 +27,6 @@ mod hash;
 mod id;
 mod ids;
 mod kept;
-mod keys;
 mod laws;
 mod names;
 mod pdu;
@@ -36,26 +34,16 @@ mod redaction;
 mod sealing;
 mod signature;
 mod signed;
-#[cfg(test)]
-mod tests;
-#[cfg(test)]
-mod tests_hash;
-#[cfg(test)]
-mod tests_keys;
-#[cfg(test)]
-mod tests_pdu;
-#[cfg(test)]
-mod tests_sealing;
 mod validity;
 
 pub use checked::{CheckFault, Checked, check_in, check_signed, ids_of_checked};
 pub use event_ids::EventIds;
 pub use fault::PduFault;
+pub use fed_keys::{Keys, StandIn, Trusting, stand_ins_agree};
 pub use field::Field;
 pub use hash::content_hash;
 pub use id::{EventId, event_id, event_id_of_signed};
 pub use ids::{domain, is_user_id};
-pub use keys::{Keys, StandIn, Trusting, stand_ins_agree};
 pub use laws::{
     ids_of_redactions, redacted_once, redaction_passes, unsigned_changes, what_is_signed,
     what_redaction_keeps,

@@ -14,11 +14,11 @@ use crate::checked::{CheckFault, Checked, check_in};
 use crate::fault::PduFault;
 use crate::hash::content_hash;
 use crate::ids::domain;
-use crate::keys::Keys;
 use crate::pdu::Pdu;
 use crate::signed::signed_text;
 use base64::engine::general_purpose::STANDARD_NO_PAD;
 use fed_json::{Json, NoMemory};
+use fed_keys::Keys;
 use std::alloc::Global;
 
 /// Whether the sender of an event, where there is one that is a text, is a user of this server.

@@ -5,9 +5,9 @@ ghost use Rattle.fed_json.specs.Members.{members_left};
 ghost use Rattle.fed_event.specs.EventId.{signed_text_of};
 ghost use Rattle.fed_event.specs.Signatures.{signature_in, signatures_by as signatures_of_server, is_signed_by as is_signed_by_server};
 
-use crate::keys::Keys;
 use base64::engine::general_purpose::STANDARD_NO_PAD;
 use fed_json::{Json, JsonRef, Members};
+use fed_keys::Keys;
 
 /// The signature that a value gives (Server-Server API, "Signing Events"): of a text that is the unpadded standard base64 of 64
 /// bytes, these bytes. Every other value gives none.

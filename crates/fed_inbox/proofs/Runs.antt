@@ -5,7 +5,7 @@ use Rattle.std.proofs.lemmas.List.{append-nil}
 use Rattle.std.proofs.lemmas.Slice.Eq.{bytes_eq-Decides}
 use Rattle.std.specs.FinMap as finite
 use Rattle.serde_json.specs.Data.{Data}
-use Rattle.fed_event.specs.Signatures.{Checks}
+use Rattle.fed_event.specs.Keys.{Checks}
 use Rattle.fed_txn.specs.declared.fault.TxnFault.{TxnFault}
 use Rattle.fed_txn.specs.Transaction.{Transaction, transaction_of}
 use Rattle.fed_txn.specs.Reading.{body_of}

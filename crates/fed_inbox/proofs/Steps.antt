@@ -11,7 +11,7 @@ use Rattle.fed_inbox.specs.declared.refusal.Refusal.TheVariants.{OutOfMemory, Se
 use Rattle.fed_inbox.specs.Refusal.{refusal_of}
 use Rattle.fed_inbox.specs.Reply.{Answer, refused}
 use Rattle.fed_inbox.specs.Log.{LogState}
-use Rattle.fed_event.specs.Signatures.{Checks}
+use Rattle.fed_event.specs.Keys.{Checks}
 use Rattle.fed_event.specs.Checked.{CheckedEvent}
 use Rattle.fed_inbox.specs.declared.log.Accepted.{Accepted}
 use Rattle.fed_inbox.specs.Answer.{Request, Step, Steps, step_new, step_body, step_of, answer_by, logs_by, fresh_by, IsAnswered}

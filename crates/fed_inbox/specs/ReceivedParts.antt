@@ -4,7 +4,7 @@ use Rattle.std.specs.FinMap as finite
 use Rattle.serde_json.specs.Data.{Data}
 use Rattle.serde_json.specs.Find.{as_object}
 use Rattle.fed_event.specs.EventId.{event_id_of}
-use Rattle.fed_event.specs.Signatures.{Checks}
+use Rattle.fed_event.specs.Keys.{Checks}
 use Rattle.fed_event.specs.Checked.{CheckedEvent, checked_of}
 use Rattle.fed_txn.specs.Verdicts.{VerdictMap}
 use Rattle.fed_inbox.specs.declared.received.Received.{Received}

@@ -1,7 +1,7 @@
 -- What an inbox answers to requests in turn, and its state after them. Each request is marked whether memory was found for it.
 use Rattle.std.specs.Prelude.{ℕ, List, [], ◌∷◌, Bool, Option, Some, None}
 use Rattle.std.specs.FinMap as finite
-use Rattle.fed_event.specs.Signatures.{Checks}
+use Rattle.fed_event.specs.Keys.{Checks}
 use Rattle.fed_inbox.specs.Reply.{Answer}
 use Rattle.fed_inbox.specs.Log.{LogState}
 use Rattle.fed_inbox.specs.Inbox.{InboxState, log_at}

@@ -11,7 +11,8 @@ use Rattle.fed_event.specs.Fields.{room_id_of}
 use Rattle.fed_event.specs.EventId.{event_id_of}
 use Rattle.fed_event.specs.Tests.{first_fault_of}
 use Rattle.fed_event.specs.Verdict.{verdict_of}
-use Rattle.fed_event.specs.Signatures.{Checks, is_signed}
+use Rattle.fed_event.specs.Keys.{Checks}
+use Rattle.fed_event.specs.Signatures.{is_signed}
 use Rattle.fed_event.specs.Checked.{CheckedEvent, checked_of}
 use Rattle.fed_txn.specs.Verdicts.{VerdictMap}
 use Rattle.fed_txn.specs.Reply.{reply_value}

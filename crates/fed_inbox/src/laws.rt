@@ -3,7 +3,7 @@ ghost use Rattle.std.specs.Prelude.{◌≡◌, ◌≢◌, ℕ, List, Bool, Some,
 ghost use Rattle.std.specs.FinMap as finite;
 ghost use Rattle.serde_json.specs.Data.{Data};
 ghost use Rattle.fed_event.specs.Names.{is_one_of};
-ghost use Rattle.fed_event.specs.Signatures.{Checks};
+ghost use Rattle.fed_event.specs.Keys.{Checks};
 ghost use Rattle.fed_inbox.specs.Inbox.{InboxState, new_inbox, log_at, taken_of, taken_edus_of};
 ghost use Rattle.fed_inbox.specs.LookUps.{log_of_new, has_id};
 ghost use Rattle.fed_inbox.specs.Taking.{verdict_on, verdicts_on};

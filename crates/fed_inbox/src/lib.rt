@@ -19,10 +19,6 @@ mod received;
 mod refusal;
 mod reply;
 mod rooms;
-#[cfg(test)]
-mod tests;
-#[cfg(test)]
-mod tests_events;
 mod verdict;
 
 pub use inbox::Inbox;

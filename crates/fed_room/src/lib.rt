@@ -10,8 +10,6 @@ mod drafting;
 mod extremities;
 mod table;
 mod table_room;
-#[cfg(test)]
-mod tests;
 
 pub use table::Table;
 pub use table_room::TableRoom;

@@ -5,7 +5,7 @@ use Rattle.std.specs.Str.{bytes_eq}
 use Rattle.serde_json.specs.Data.{Data}
 use Rattle.fed_event.specs.declared.fault.PduFault.{PduFault}
 use Rattle.fed_event.specs.Ids.{is_user_id, domain_of}
-use Rattle.fed_event.specs.Signatures.{Checks}
+use Rattle.fed_event.specs.Keys.{Checks}
 use Rattle.fed_event.specs.Checked.{CheckedEvent, checked_code, checked_of}
 use Rattle.fed_event.specs.Sealing.{sealed_of}
 use Rattle.fed_event.specs.Tests.{first_fault_of}

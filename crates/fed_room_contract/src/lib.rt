@@ -28,8 +28,6 @@ mod receipt;
 mod refusal;
 mod rule;
 mod state;
-#[cfg(test)]
-mod tests;
 mod verdict;
 
 pub use advancing::advance_all;

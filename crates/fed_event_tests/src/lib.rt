@@ -1,0 +1,19 @@
+//! Tests of `fed_event`, by its public names: what no contract says, and values from outside.
+//!
+//! - `ids`: redactions and ids
+//! - `hashes`: content hashes, and the parts of identifiers
+//! - `pdu`: each test of an event on both sides of its limit, their order, and fields
+//! - `keys`: signatures
+//! - `sealing`: sealing, and the check on receipt
+#![tactic(auto)]
+
+#[cfg(test)]
+mod hashes;
+#[cfg(test)]
+mod ids;
+#[cfg(test)]
+mod keys;
+#[cfg(test)]
+mod pdu;
+#[cfg(test)]
+mod sealing;
