@@ -41,6 +41,7 @@ impl JoinRule {
             None => JoinRule::Other,
         }
     }
+
     /// Whether anyone may join.
     pub fn is_public(self) -> bool
         ensures { result ≡ is_public self }
