@@ -25,8 +25,9 @@ pub const MAX_READS: u64 = 40_000_000;
 const BUFFER: usize = 65_536;
 
 /// Reads lines `<origin> <txnId> <body>` and writes, for each of them, the line `<status> <reply body>` of an inbox that begins
-/// empty (Server-Server API, "Transactions"). Every signature of an event that decodes counts as right. Each line is written and flushed before the next one is read. The first two spaces
-/// of a line end its first two parts, and the end of the input ends a line too.
+/// empty (Server-Server API, "Transactions"). Every signature of an event that decodes counts as right. Each line is written and
+/// flushed before the next one is read. The first two spaces of a line end its first two parts, and the end of the input ends a line
+/// too.
 ///
 /// # Errors
 ///

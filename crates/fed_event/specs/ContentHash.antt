@@ -17,9 +17,17 @@ uncovered_keys = codes "unsigned" ∷ codes "signatures" ∷ codes "hashes" ∷ 
 abbrev pub covered_part : Data → Data
 covered_part event = leave_out uncovered_keys event
 
--- the hash in the standard alphabet of base64, without padding
+-- its bytes
+abbrev pub covered_text_of : Data → List ℕ
+covered_text_of event = canonical_text (covered_part event)
+
+-- the hash of an event of which it covers this text: in the standard alphabet of base64, without padding
+abbrev pub hash_of_covered : List ℕ → List ℕ
+hash_of_covered text = encode_of standard_no_pad (sha256 text)
+
+-- the hash as a text
 abbrev pub content_hash_of : Data → List ℕ
-content_hash_of event = encode_of standard_no_pad (sha256 (canonical_text (covered_part event)))
+content_hash_of event = hash_of_covered (covered_text_of event)
 
 -- the hash that the event gives, where there is one
 abbrev pub given_hash_of : Data → Option (List ℕ)

@@ -10,9 +10,11 @@ pub mod Ids
 pub mod Fields
 pub mod EventIds
 pub mod ContentHash
+pub mod Texts
 pub mod Signatures
 pub mod Checked
 pub mod CheckVerdict
 pub mod Sealing
 pub use Rattle.fed_keys.specs.Keys
+pub use Rattle.fed_keys.specs.StandIn
 pub use Rattle.fed_keys.specs.Trusting

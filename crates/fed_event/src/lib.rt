@@ -2,6 +2,7 @@
 //! and the tests that it has to pass.
 //!
 //! - `redaction`: what redaction leaves of an event
+//! - `texts`: `Texts`, the texts of an event: the canonical one, the signed one and the one that the content hash covers
 //! - `signed`: the bytes of an event that are signed and hashed
 //! - `id`: `EventId`, the reference hash of an event as a text
 //! - `pdu`: `Pdu`, an event that has passed the tests
@@ -15,7 +16,7 @@
 //! - `ids`: the parts of identifiers
 //! - `field`, `fault`: the fields of an event, and why a value is no event
 //! - `laws`: what holds of all redactions and ids
-//! - `kept`, `names`: the keys that redaction keeps, and names as they are written
+//! - `kept`, `names`, `object_text`: the keys that redaction keeps, and names and objects as they are written
 #![tactic(auto)]
 
 mod checked;
@@ -29,11 +30,13 @@ mod ids;
 mod kept;
 mod laws;
 mod names;
+mod object_text;
 mod pdu;
 mod redaction;
 mod sealing;
 mod signature;
 mod signed;
+mod texts;
 mod validity;
 
 pub use checked::{CheckFault, Checked, check_in, check_signed, ids_of_checked};
@@ -53,4 +56,5 @@ pub use redaction::redact;
 pub use sealing::{is_sent_by, seal};
 pub use signature::{is_signed_by, signature_of};
 pub use signed::signed_text;
+pub use texts::Texts;
 pub use validity::{MAX_AUTH_EVENTS, MAX_DEPTH, MAX_PREV_EVENTS, MAX_SIZE, MAX_TEXT, first_fault};

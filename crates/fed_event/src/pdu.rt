@@ -1,19 +1,20 @@
 // Events that have passed the tests.
-ghost use Rattle.std.specs.Prelude.{◌≡◌, ◌≢◌, Some, None, Ok, Err, length, IfOk, IfErr, IsOk, IsErr, IsSome, IsNone, IsOkUnless};
-ghost use Rattle.fed_json.specs.CanonicalText.{canonical_text};
+ghost use Rattle.std.specs.Prelude.{◌≡◌, ◌≢◌, Some, None, Ok, Err, IfOk, IfErr, IsOk, IsErr, IsSome, IsNone, IsOkUnless};
 ghost use Rattle.fed_event.specs.declared.fault.PduFault.TheVariants.{Memory};
 ghost use Rattle.fed_event.specs.EventId.{event_id_of};
 ghost use Rattle.fed_event.specs.Reading.{read_of};
 ghost use Rattle.fed_event.specs.ContentHash.{hash_fits_of};
+ghost use Rattle.fed_event.specs.Texts.{event_texts};
 ghost use Rattle.fed_event.specs.Redaction.{redacted};
 ghost use Rattle.fed_event.specs.Tests.{first_fault_of};
 
 use crate::fault::PduFault;
 use crate::hash::hash_fits;
-use crate::id::{EventId, event_id};
+use crate::id::{EventId, event_id_of_signed};
 use crate::redaction::redact;
+use crate::texts::Texts;
 use crate::validity::first_fault;
-use fed_json::{Json, JsonFault, MAX_LEVELS, NoMemory, canonical, read_within};
+use fed_json::{Json, JsonFault, MAX_LEVELS, NoMemory, read_within};
 use std::alloc::Global;
 use std::marker::Model;
 
@@ -86,18 +87,23 @@ impl Pdu {
         ensures only { IsNone (first_fault_of json) → IsOkUnless result Memory }
         ensures refuses { IsSome (first_fault_of json) → IsErr result }
     {
-        let size = canonical(alloc, &json)?.len();
-        let id = event_id(alloc, &json)?;
-        Pdu::with_id(alloc, json, size, id)
+        let texts = Texts::of(alloc, &json)?;
+        let id = event_id_of_signed(alloc, texts.signed())?;
+        Pdu::with_texts(alloc, json, &texts, id)
     }
 
-    /// The event that a value is, whose canonical text has `size` bytes and whose id is `id`: for a caller that has both.
+    /// The event that a value is, whose texts are `texts` and whose id is `id`: for a caller that has both.
     ///
     /// # Errors
     ///
     /// Those of `of_json`.
-    pub fn with_id(alloc: Global, json: Json, size: usize, id: EventId) -> Result<Pdu, PduFault>
-        requires size { size ≡ length (canonical_text json) }
+    pub fn with_texts(
+        alloc: Global,
+        json: Json,
+        texts: &Texts,
+        id: EventId,
+    ) -> Result<Pdu, PduFault>
+        requires texts { texts.now ≡ event_texts json }
         requires id { id ≡ event_id_of json }
         ensures ok { IfOk result (λ p. p ≡ json) }
         ensures passes { IfOk result (λ _. first_fault_of json ≡ None) }
@@ -105,10 +111,10 @@ impl Pdu {
         ensures only { IsNone (first_fault_of json) → IsOkUnless result Memory }
         ensures refuses { IsSome (first_fault_of json) → IsErr result }
     {
-        if let Some(fault) = first_fault(&json, size) {
+        if let Some(fault) = first_fault(&json, texts.whole().len()) {
             return Err(fault);
         }
-        let hash_fits = hash_fits(alloc, &json)?;
+        let hash_fits = hash_fits(alloc, &json, texts.covered())?;
         Ok(Pdu {
             json,
             id,
@@ -130,7 +136,7 @@ impl Pdu {
     {
         let json = redact(alloc, &self.json)?;
         let id = self.id.copy(alloc)?;
-        let hash_fits = hash_fits(alloc, &json)?;
+        let hash_fits = hash_fits(alloc, &json, Texts::of(alloc, &json)?.covered())?;
         Ok(Pdu {
             json,
             id,

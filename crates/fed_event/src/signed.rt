@@ -1,65 +1,29 @@
 // The bytes of an event that are signed and hashed.
-ghost use Rattle.std.specs.Prelude.{◌≡◌, ◌++◌, not, IfOk, OnOk, map};
+ghost use Rattle.std.specs.Prelude.{◌≡◌, ◌++◌, IfOk, OnOk, map};
 ghost use Rattle.serde_json.specs.Data.{object};
 ghost use Rattle.fed_json.specs.CanonicalText.{canonical_text};
 ghost use Rattle.fed_json.specs.JsonRef.{seen};
 ghost use Rattle.fed_json.specs.Members.{members_left};
 ghost use Rattle.fed_event.specs.Names.{is_one_of, select, members_of};
-ghost use Rattle.fed_event.specs.Redaction.{redacted_members, kept_content};
-ghost use Rattle.fed_event.specs.EventId.{signed_part, unsigned_keys};
+ghost use Rattle.fed_event.specs.Redaction.{kept_content};
+ghost use Rattle.fed_event.specs.EventId.{signed_text_of};
 
-use crate::kept::{content_keys, is_among, is_signed};
+use crate::kept::is_among;
 use crate::names::append_name;
-use crate::redaction::event_type;
+use crate::texts::Texts;
 use fed_json::{Json, JsonRef, Members, NoMemory};
 use std::alloc::Global;
 
 /// The bytes of an event that its servers sign and that are hashed for its id (Server-Server API, "Signing Events"): the canonical
 /// text of its redaction without `signatures` and `unsigned`. A value that is no object is written as it is.
 pub fn signed_text(alloc: Global, event: &Json) -> Result<Vec<u8>, NoMemory>
-    ensures { IfOk result (λ text. text.items ≡ canonical_text (signed_part event.now)) }
+    ensures { IfOk result (λ text. text.items ≡ signed_text_of event.now) }
 {
-    let event = event.root();
-    let mut text = Vec::new(alloc);
-    match event.members() {
-        Some(members) => {
-            append_event(alloc, &mut text, members, content_keys(event_type(event)))?;
-        }
-        None => event.append_to(alloc, &mut text)?,
-    }
-    Ok(text)
-}
-
-// Appends the object of the members that are signed of an event whose content keeps these keys.
-fn append_event(
-    alloc: Global,
-    text: &mut Vec<u8>,
-    members: Members<'_>,
-    keys: &[&str],
-) -> Result<(), NoMemory>
-    ensures { let kept = redacted_members (map (λ key. key.now) keys.now) (members_of (members_left members.entry)) in
-        OnOk result (text.new.items
-        ≡ text.old.items ++ canonical_text (object (select (λ k. not (is_one_of unsigned_keys k)) kept))) }
-{
-    text.push(b'{')?;
-    let mut later = false;
-    for (name, value) in members {
-        if is_signed(name) {
-            append_name(text, later, name)?;
-            if name == "content" {
-                append_content(alloc, text, value, keys)?;
-            } else {
-                value.append_to(alloc, text)?;
-            }
-            later = true;
-        }
-    }
-    text.push(b'}')?;
-    Ok(())
+    Ok(Texts::of(alloc, event)?.into_signed())
 }
 
 // Appends the object of the members of the content of these names.
-fn append_content(
+pub(crate) fn append_content(
     alloc: Global,
     text: &mut Vec<u8>,
     content: JsonRef<'_>,

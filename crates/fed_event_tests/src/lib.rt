@@ -1,6 +1,7 @@
 //! Tests of `fed_event`, by its public names: what no contract says, and values from outside.
 //!
 //! - `ids`: redactions and ids
+//! - `texts`: the canonical text, the signed text and the text that the content hash covers, side by side
 //! - `hashes`: content hashes, and the parts of identifiers
 //! - `pdu`: each test of an event on both sides of its limit, their order, and fields
 //! - `keys`: signatures
@@ -17,3 +18,5 @@ mod keys;
 mod pdu;
 #[cfg(test)]
 mod sealing;
+#[cfg(test)]
+mod texts;

@@ -1,7 +1,7 @@
 // Each test of an event on both sides of its limit, their order, and the fields of one event.
 use fed_event::{
-    Field, MAX_AUTH_EVENTS, MAX_DEPTH, MAX_PREV_EVENTS, MAX_SIZE, MAX_TEXT, Pdu, PduFault,
-    event_id, first_fault,
+    Field, MAX_AUTH_EVENTS, MAX_DEPTH, MAX_PREV_EVENTS, MAX_SIZE, MAX_TEXT, Pdu, PduFault, Texts,
+    event_id_of_signed, first_fault,
 };
 use fed_json::{Json, JsonFault, JsonRef, canonical};
 use std::alloc::{AllocError, Global};
@@ -559,16 +559,16 @@ fn copies(rt: HostRuntime) -> Result<(), Fail> {
     Ok(())
 }
 
-// The event with this value in a field, made with its id.
+// The event with this value in a field, made with its texts and its id.
 fn made(alloc: Global, name: &str, text: &str) -> Result<Result<Pdu, PduFault>, Fail> {
     let event = changed(alloc, name, text)?;
-    let size = canonical(alloc, &event)?.len();
-    let id = event_id(alloc, &event)?;
-    Ok(Pdu::with_id(alloc, event, size, id))
+    let texts = Texts::of(alloc, &event)?;
+    let id = event_id_of_signed(alloc, texts.signed())?;
+    Ok(Pdu::with_texts(alloc, event, &texts, id))
 }
 
 #[test]
-fn with_an_id(rt: HostRuntime) -> Result<(), Fail> {
+fn with_texts(rt: HostRuntime) -> Result<(), Fail> {
     let alloc = rt.alloc();
     let pdu = made(alloc, "depth", "7")??;
     assert_eq!(rt; pdu.id().as_str(), event_id_text());

@@ -8,7 +8,7 @@ ghost use Rattle.fed_inbox.specs.Taking.{taking_of, is_edu};
 
 use crate::received::Received;
 use crate::rooms::Rooms;
-use fed_event::{Checked, Keys};
+use fed_event::{Checked, Keys, Texts};
 use fed_json::{Json, NoMemory, canonical};
 use fed_txn::{TransactionIn, write_reply};
 use std::alloc::Global;
@@ -41,9 +41,11 @@ impl Outcome {
         } = transaction;
         let mut received = Received::new(alloc);
         let mut pdus = Vec::with_capacity(alloc, elements.len())?;
+        let mut texts = Texts::new(alloc);
         for element in elements {
-            let text = canonical(alloc, &element)?;
-            received.enter(alloc, element, text.len(), rooms, keys)?;
+            texts = texts.rewritten(alloc, &element)?;
+            received.enter(alloc, element, &texts, rooms, keys)?;
+            let text = Vec::from_slice(alloc, texts.whole())?;
             pdus.push(text)?;
         }
         let Received { verdicts, fresh } = received;

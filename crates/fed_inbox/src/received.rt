@@ -1,12 +1,12 @@
 // What the events of a transaction come to.
-ghost use Rattle.std.specs.Prelude.{◌≡◌, [], length, OnOk};
-ghost use Rattle.fed_json.specs.CanonicalText.{canonical_text};
+ghost use Rattle.std.specs.Prelude.{◌≡◌, [], OnOk};
+ghost use Rattle.fed_event.specs.Texts.{event_texts};
 ghost use Rattle.fed_inbox.specs.ReceivedParts.{after_element, received};
 ghost use Rattle.std.specs.FinMap as finite;
 
 use crate::rooms::Rooms;
 use crate::verdict::{Fault, judged};
-use fed_event::{Checked, Keys, event_id_of_signed, signed_text};
+use fed_event::{Checked, Keys, Texts, event_id_of_signed};
 use fed_json::{Json, NoMemory};
 use fed_txn::Verdicts;
 use std::alloc::Global;
@@ -28,30 +28,29 @@ impl Received {
         }
     }
 
-    /// Enters an element of a transaction whose canonical text has `size` bytes: an object whose id has no verdict yet gets its
-    /// verdict, and is handed on where that is none.
+    /// Enters an element of a transaction, which has these texts: an object whose id has no verdict yet gets its verdict, and is
+    /// handed on where that is none.
     pub(crate) fn enter<K: Keys>(
         &mut self,
         alloc: Global,
         element: Json,
-        size: usize,
+        texts: &Texts,
         rooms: &Rooms,
         keys: &K,
     ) -> Result<(), NoMemory>
-        requires { size ≡ length (canonical_text element) }
+        requires { texts.now ≡ event_texts element }
         ensures { OnOk result (received self.new
             ≡ after_element (K.checks keys.now) rooms.now (received self.old) element) }
     {
         if !element.is_object() {
             return Ok(());
         }
-        let signed = signed_text(alloc, &element)?;
-        let id = event_id_of_signed(alloc, &signed)?;
+        let id = event_id_of_signed(alloc, texts.signed())?;
         if self.verdicts.contains(id.as_str()) {
             return Ok(());
         }
         let key = String::from_str(alloc, id.as_str())?;
-        match judged(alloc, element, size, &signed, id, rooms, keys) {
+        match judged(alloc, element, texts, id, rooms, keys) {
             Ok(event) => {
                 self.verdicts.insert(key, None)?;
                 self.fresh.push(event)?;

@@ -1,14 +1,14 @@
 // What an event comes to that a transaction brings.
-ghost use Rattle.std.specs.Prelude.{◌≡◌, ◌≢◌, Some, None, length, IfOk, IfErr, string_bytes};
-ghost use Rattle.fed_json.specs.CanonicalText.{canonical_text};
-ghost use Rattle.fed_event.specs.EventId.{event_id_of, signed_text_of};
+ghost use Rattle.std.specs.Prelude.{◌≡◌, ◌≢◌, Some, None, IfOk, IfErr, string_bytes};
+ghost use Rattle.fed_event.specs.EventId.{event_id_of};
+ghost use Rattle.fed_event.specs.Texts.{event_texts};
 ghost use Rattle.fed_event.specs.Checked.{checked_of};
 ghost use Rattle.fed_inbox.specs.declared.verdict.Fault.TheVariants.{Memory};
 ghost use Rattle.fed_inbox.specs.FaultText.{fault_text};
 ghost use Rattle.fed_inbox.specs.Taking.{verdict_on};
 
 use crate::rooms::Rooms;
-use fed_event::{CheckFault, Checked, EventId, Keys, Pdu, PduFault, check_signed};
+use fed_event::{CheckFault, Checked, EventId, Keys, Pdu, PduFault, Texts, check_signed};
 use fed_json::{Json, NoMemory};
 use std::alloc::Global;
 
@@ -62,27 +62,25 @@ impl Fault {
 }
 
 /// The checked event that a value is, or its first fault: it is no event, the server of its sender has not signed it, or its room is not
-/// known. The canonical text of the value has `size` bytes, its signed text is `signed` and its id is `id`.
+/// known. The value has these texts and this id.
 pub(crate) fn judged<K: Keys>(
     alloc: Global,
     event: Json,
-    size: usize,
-    signed: &[u8],
+    texts: &Texts,
     id: EventId,
     rooms: &Rooms,
     keys: &K,
 ) -> Result<Checked, Fault>
-    requires size { size ≡ length (canonical_text event) }
-    requires signed { signed.now ≡ signed_text_of event }
+    requires texts { texts.now ≡ event_texts event }
     requires id { id ≡ event_id_of event }
     ensures ok { IfOk result (λ checked. checked ≡ checked_of (K.checks keys.now) event) }
     ensures passes { IfOk result (λ _. verdict_on (K.checks keys.now) rooms.now event ≡ None) }
     ensures fails { IfErr result (λ fault. fault ≢ Memory
         → verdict_on (K.checks keys.now) rooms.now event ≡ Some (fault_text fault)) }
 {
-    let event = Pdu::with_id(alloc, event, size, id)?;
+    let event = Pdu::with_texts(alloc, event, texts, id)?;
     let known = rooms.contains(event.room_id());
-    let checked = check_signed(alloc, event, signed, keys)?;
+    let checked = check_signed(alloc, event, texts.signed(), keys)?;
     if !known {
         return Err(Fault::UnknownRoom);
     }

@@ -1,5 +1,6 @@
 // A look into a value.
-ghost use Rattle.std.specs.Prelude.{◌≡◌, ◌≤◌, true};
+ghost use Rattle.std.specs.Prelude.{◌≡◌, ◌≤◌, ◌++◌, true, OnOk, OnErr};
+ghost use Rattle.json.specs.Print.{quoted};
 ghost use Rattle.serde_json.specs.Data.{depth};
 ghost use Rattle.serde_json.specs.Read.{max_depth};
 ghost use Rattle.serde_json.specs.View.{view};
@@ -10,8 +11,10 @@ use crate::items::Items;
 use crate::members::Members;
 use crate::profile::nesting;
 use crate::value::Json;
+use json::Writer;
 use serde_json::Value;
 use std::alloc::Global;
+use std::mem;
 
 /// A value inside a `Json`.
 #[derive(Clone, Copy)]
@@ -107,6 +110,9 @@ impl<'a> JsonRef<'a> {
             (out.new.items ≡ out.old.items ++ canonical_text (seen self.entry)) }
         ensures err { OnErr result (out.new.items ≡ out.old.items) }
     {
+        if let Value::String(text) = self.value {
+            return append_text(out, text.as_str());
+        }
         let text = self.value.to_vec(alloc)?;
         out.extend_from_slice(&text)?;
         Ok(())
@@ -122,4 +128,16 @@ impl<'a> JsonRef<'a> {
             None => unreachable!(),
         }
     }
+}
+
+// Appends a text in quotes. An error leaves `out` as it was.
+#[tactic(auto, unfolding(json::specs::Print::print_from))]
+fn append_text(out: &mut Vec<u8>, text: &str) -> Result<(), NoMemory>
+    ensures ok { OnOk result (out.new.items ≡ out.old.items ++ quoted text.now) }
+    ensures err { OnErr result (out.new.items ≡ out.old.items) }
+{
+    let mut writer = Writer::new(mem::try_take(out)?);
+    let written = writer.string(text);
+    *out = writer.into_inner();
+    written
 }

@@ -39,7 +39,7 @@ loop-element-preserved g c =
       texts = ap (λ v. texts_of v ++ map canonical_text left) c.in_ok-push.ensures.items
           ∙ ap (λ t. t ++ map canonical_text left) (texts_of-append before (c.in_ok-text.text ∷ []))
           ∙ append_assoc (texts_of before) (c.in_ok-text.text.items ∷ []) (map canonical_text left)
-          ∙ ap (λ text. texts_of before ++ text ∷ map canonical_text left) c.in_ok-text.ensures.exact
+          ∙ ap (λ text. texts_of before ++ text ∷ map canonical_text left) (c.in_ok-text.ensures.items ∙ c.whole.ensures ∙ ap (λ t. t.whole) c.in_ok-texts.ensures)
           ∙ ap (λ elements. texts_of before ++ map canonical_text elements) (sym here)
           ∙ c.loop-element.invariant.texts;
       entered = subst (λ r. Enters checks rooms r left all) (sym c.in_ok-enter.ensures)
