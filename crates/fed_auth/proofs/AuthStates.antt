@@ -1,5 +1,6 @@
 -- Auth states, by look-ups among the auth events.
 use Rattle.std.proofs.Common.{◌≡◌, ℕ, List, [], ◌∷◌, Bool, true, false, true≢false, ◌&&◌, ◌||◌, cond, Option, Some, None, option_map, is_some, Result, Ok, Err, bytes_eq, refl, sym, ◌∙◌, ap}
+use Rattle.std.proofs.lemmas.Bool.{and_parts, or_parts}
 use Rattle.std.proofs.lemmas.Slice.Eq.{bytes_eq-Decides}
 use Rattle.std.specs.Bool.{⊤}
 use Rattle.std.specs.List.{list_any, find}
@@ -21,18 +22,14 @@ same_bytes xs ys h = (bytes_eq-Decides xs ys).0 h
 itself : (xs : List ℕ) → bytes_eq xs xs ≡ true
 itself xs = (bytes_eq-Decides xs xs).1 refl
 
-both : (a b : Bool) → (a && b) ≡ true → (a ≡ true) × (b ≡ true)
-both true b h = (refl, h)
-both false b h = absurd (true≢false (sym h))
-
 -- the two parts of a key are those at which something is laid
 abbrev is_at : List ℕ → List ℕ → List ℕ → Option (List ℕ) → Bool
 is_at kind key k o = bytes_eq kind k && option_eq bytes_eq (Some key) o
 
 laid-same : (s : StateMap) (k : List ℕ) (o : Option (List ℕ)) (id kind key : List ℕ) → is_at kind key k o ≡ true → entry_at (with_id_at s k o id) kind key ≡ Some id
-laid-same s k None id kind key h = absurd (true≢false (sym (both (bytes_eq kind k) false h).1))
+laid-same s k None id kind key h = absurd (true≢false (sym (and_parts (bytes_eq kind k) false h).1))
 laid-same s k (Some x) id kind key h =
-    let parts = both (bytes_eq kind k) (bytes_eq key x) h in
+    let parts = and_parts (bytes_eq kind k) (bytes_eq key x) h in
     ap (λ q. entry_at (with_id_at s k (Some x) id) q key) (same_bytes kind k parts.0)
     ∙ ap (entry_at (with_id_at s k (Some x) id) k) (same_bytes key x parts.1)
     ∙ entry_at-same s k x id
@@ -51,7 +48,7 @@ same_key (Some x) key h = ap Some (sym (same_bytes key x h))
 alike : (kind key : List ℕ) (one other : Stored) → stands_at kind key one ≡ true → are_alike one other ≡ stands_at kind key other
 unfolding stands_at are_alike
 alike kind key one other h =
-    let parts = both (bytes_eq kind (kind_in one)) (option_eq bytes_eq (Some key) (state_key_in one)) h in
+    let parts = and_parts (bytes_eq kind (kind_in one)) (option_eq bytes_eq (Some key) (state_key_in one)) h in
     ap (λ k. bytes_eq k (kind_in other) && option_eq bytes_eq (state_key_in one) (state_key_in other)) (sym (same_bytes kind (kind_in one) parts.0))
     ∙ ap (λ o. bytes_eq kind (kind_in other) && option_eq bytes_eq o (state_key_in other)) (same_key (state_key_in one) key parts.1)
 
@@ -63,10 +60,6 @@ alone : (kind key : List ℕ) (one : Stored) (others : List Stored) → stands_a
 alone kind key one others h none =
     is_none (find (stands_at kind key) others)
     (is_some-find (stands_at kind key) others ∙ sym (λ i. list_any (λ other. alike kind key one other h i) others) ∙ none)
-
-neither : (a b : Bool) → (a || b) ≡ false → (a ≡ false) × (b ≡ false)
-neither true b h = absurd (true≢false h)
-neither false b h = (refl, h)
 
 or_none : {X : Type 0} (o : Option X) → option_or o None ≡ o
 or_none None = refl
@@ -102,7 +95,7 @@ module _ (kind key : List ℕ) where
   entry-with_all : (s : StateMap) (auth : List Stored) → has_double auth ≡ false → entry_at (with_all s auth) kind key ≡ option_or (found auth) (entry_at s kind key)
   entry-with_all s [] h = refl
   entry-with_all s (one ∷ others) h =
-      let parts = neither (list_any (are_alike one) others) (has_double others) h in
+      let parts = or_parts (list_any (are_alike one) others) (has_double others) h in
       entry-with_all (with_stored s one) others parts.1 ∙ laid (stands_at kind key one) s one others refl parts.0
 
   entry-Ok : (r : Result ⊤ Rule) (auth : List Stored) (state : StateMap) → has_double auth ≡ false → answer_of r (with_all finite.empty auth) ≡ Ok state → entry_at state kind key ≡ found auth
