@@ -9,32 +9,40 @@ use fed_json::{Json, NoMemory};
 use sha2::{Digest, Sha256};
 use std::alloc::Global;
 
+// The length of a SHA-256 in base64, without padding.
+const HASH_LENGTH: usize = 43;
+
 /// The content hash of an event (Server-Server API, "Calculating the content hash for an event"): the unpadded base64 of the SHA-256
 /// of the canonical text of the event without its top-level `unsigned`, `signatures` and `hashes`. A value that is no event has one
 /// too, and one that is no object is hashed as it is.
 pub fn content_hash(alloc: Global, event: &Json) -> Result<String, NoMemory>
     ensures { IfOk result (λ hash. string_bytes hash ≡ content_hash_of event.now) }
 {
-    hash_of(alloc, Texts::of(alloc, event)?.covered())
+    let hash = Sha256::digest(Texts::of(alloc, event)?.covered());
+    STANDARD_NO_PAD.encode(alloc, &hash)
 }
 
-// Whether the hash that an event gives at `hashes.sha256` is its content hash, by the text that this one covers. It is computed only
-// where one is given.
-pub(crate) fn hash_fits(alloc: Global, event: &Json, covered: &[u8]) -> Result<bool, NoMemory>
+// Whether the hash that an event gives at `hashes.sha256` is its content hash, of which the hash covers this text. It is computed only
+// where one is given, and takes no memory.
+pub(crate) fn hash_fits(event: &Json, covered: &[u8]) -> bool
     requires { covered.now ≡ covered_text_of event.now }
-    ensures { IfOk result (λ fits. fits ≡ hash_fits_of event.now) }
+    ensures { result ≡ hash_fits_of event.now }
 {
     match given_hash(event) {
-        Some(given) => Ok(hash_of(alloc, covered)?.as_str() == given),
-        None => Ok(false),
+        Some(given) => hash_of(covered).as_slice() == given.as_bytes(),
+        None => false,
     }
 }
 
-// The content hash of an event, by the text that it covers.
-fn hash_of(alloc: Global, covered: &[u8]) -> Result<String, NoMemory>
-    ensures { IfOk result (λ hash. string_bytes hash ≡ hash_of_covered covered.now) }
+// The content hash of an event of which it covers this text.
+fn hash_of(covered: &[u8]) -> [u8; HASH_LENGTH]
+    ensures { result ≡ hash_of_covered covered.now }
 {
-    STANDARD_NO_PAD.encode(alloc, &Sha256::digest(covered))
+    let mut hash = [0; HASH_LENGTH];
+    match STANDARD_NO_PAD.encode_slice(&Sha256::digest(covered), &mut hash) {
+        Ok(_) => hash,
+        Err(_) => unreachable!(),
+    }
 }
 
 // The hash that an event gives, where there is one that is a text.

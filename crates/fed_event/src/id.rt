@@ -14,6 +14,9 @@ use std::cmp::Ordering;
 use std::fmt;
 use std::marker::Model;
 
+// The length of an id: `$`, and a SHA-256 in base64 without padding.
+const ID_LENGTH: usize = 44;
+
 /// The id of an event (room version 4, "Event IDs"), as a text. Ids are ordered as their bytes. Contracts see it as its bytes.
 #[derive(Drop)]
 pub struct EventId {
@@ -120,7 +123,8 @@ pub fn event_id_of_signed(alloc: Global, signed: &[u8]) -> Result<EventId, NoMem
     ensures { IfOk result (λ id. id ≡ id_of_signed signed.now) }
 {
     let hash = Sha256::digest(signed);
-    let mut text = String::from_str(alloc, "$")?;
+    let mut text = String::with_capacity(alloc, ID_LENGTH)?;
+    text.push('$')?;
     URL_SAFE_NO_PAD.encode_string(&hash, &mut text)?;
     Ok(EventId { text })
 }

@@ -89,32 +89,25 @@ impl Pdu {
     {
         let texts = Texts::of(alloc, &json)?;
         let id = event_id_of_signed(alloc, texts.signed())?;
-        Pdu::with_texts(alloc, json, &texts, id)
+        Pdu::with_texts(json, &texts, id)
     }
 
-    /// The event that a value is, whose texts are `texts` and whose id is `id`: for a caller that has both.
+    /// The event that a value is, whose texts are `texts` and whose id is `id`: for a caller that has both. It takes no memory.
     ///
     /// # Errors
     ///
-    /// Those of `of_json`.
-    pub fn with_texts(
-        alloc: Global,
-        json: Json,
-        texts: &Texts,
-        id: EventId,
-    ) -> Result<Pdu, PduFault>
+    /// Those of `of_json` but `Memory`.
+    pub fn with_texts(json: Json, texts: &Texts, id: EventId) -> Result<Pdu, PduFault>
         requires texts { texts.now ≡ event_texts json }
         requires id { id ≡ event_id_of json }
         ensures ok { IfOk result (λ p. p ≡ json) }
         ensures passes { IfOk result (λ _. first_fault_of json ≡ None) }
-        ensures fails { IfErr result (λ e. e ≢ Memory → first_fault_of json ≡ Some e) }
-        ensures only { IsNone (first_fault_of json) → IsOkUnless result Memory }
-        ensures refuses { IsSome (first_fault_of json) → IsErr result }
+        ensures fails { IfErr result (λ e. first_fault_of json ≡ Some e) }
     {
         if let Some(fault) = first_fault(&json, texts.whole().len()) {
             return Err(fault);
         }
-        let hash_fits = hash_fits(alloc, &json, texts.covered())?;
+        let hash_fits = hash_fits(&json, texts.covered());
         Ok(Pdu {
             json,
             id,
@@ -136,7 +129,7 @@ impl Pdu {
     {
         let json = redact(alloc, &self.json)?;
         let id = self.id.copy(alloc)?;
-        let hash_fits = hash_fits(alloc, &json, Texts::of(alloc, &json)?.covered())?;
+        let hash_fits = hash_fits(&json, Texts::of(alloc, &json)?.covered());
         Ok(Pdu {
             json,
             id,

@@ -564,7 +564,7 @@ fn made(alloc: Global, name: &str, text: &str) -> Result<Result<Pdu, PduFault>, 
     let event = changed(alloc, name, text)?;
     let texts = Texts::of(alloc, &event)?;
     let id = event_id_of_signed(alloc, texts.signed())?;
-    Ok(Pdu::with_texts(alloc, event, &texts, id))
+    Ok(Pdu::with_texts(event, &texts, id))
 }
 
 #[test]

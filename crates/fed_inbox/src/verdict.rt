@@ -78,7 +78,7 @@ pub(crate) fn judged<K: Keys>(
     ensures fails { IfErr result (λ fault. fault ≢ Memory
         → verdict_on (K.checks keys.now) rooms.now event ≡ Some (fault_text fault)) }
 {
-    let event = Pdu::with_texts(alloc, event, texts, id)?;
+    let event = Pdu::with_texts(event, texts, id)?;
     let known = rooms.contains(event.room_id());
     let checked = check_signed(alloc, event, texts.signed(), keys)?;
     if !known {

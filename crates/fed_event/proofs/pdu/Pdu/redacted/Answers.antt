@@ -10,5 +10,5 @@ invariant_of-result c =
     let whole = c.in_ok-json.ensures.redacted in (
       ap first_fault_of whole ∙ c.in_ok-json.ensures.passes c.self.invariant.0,
       c.in_ok-id.ensures ∙ c.self.invariant.1 ∙ sym (event_id_of-redacted json) ∙ sym (ap event_id_of whole),
-      c.in_ok-hash_fits.ensures,
+      c.hash_fits-hash_fits.ensures,
     )
