@@ -18,13 +18,13 @@ use Rattle.fed_event.specs.declared.field.Field.TheVariants.{Event, Content}
 use Rattle.fed_event.specs.declared.fault.PduFault.{PduFault}
 use Rattle.fed_event.specs.declared.fault.PduFault.TheVariants.{Memory, NotJson, NotCanonical, Missing, WrongKind, TooLarge, TooLong, TooMany, TooDeep}
 use Rattle.fed_event.specs.Field.{field_name}
-use Rattle.fed_event.specs.Names.{is_one_of, select, at_name}
-use Rattle.fed_event.specs.Redaction.{event_keys, type_of, content_keys, kept_content, redacted_members, redacted}
+use Rattle.fed_redaction.specs.Names.{is_one_of, select, at_name}
+use Rattle.fed_redaction.specs.Redaction.{event_keys, type_of, content_keys, kept_content, redacted_members, redacted}
 use Rattle.fed_event.specs.Tests.{part, is_object, has_kind, most, holds, fails, all_tests, first_fault_of}
-use Rattle.fed_event.proofs.Building.{IsBelow, Rises, Rises-members_rise}
-use Rattle.fed_event.proofs.Parts.{members-select}
-use Rattle.fed_event.proofs.Redacting.{redacted-kept, redacted-content}
-use Rattle.fed_event.proofs.Selecting.{same_name, select-at_name}
+use Rattle.fed_redaction.proofs.Building.{IsBelow, Rises, Rises-members_rise}
+use Rattle.fed_redaction.proofs.Parts.{members-select}
+use Rattle.fed_redaction.proofs.Redacting.{redacted-kept, redacted-content}
+use Rattle.fed_redaction.proofs.Selecting.{same_name, select-at_name}
 
 -- ---- what stays is no longer and no deeper
 

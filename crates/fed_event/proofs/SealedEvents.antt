@@ -16,20 +16,20 @@ use Rattle.serde_json.proofs.Views.{get_member-put, get_member-put_other}
 use Rattle.fed_json.specs.JsonRef.{as_members}
 use Rattle.fed_json.specs.Editing.{with_member}
 use Rattle.fed_json.specs.CanonicalText.{canonical_text}
-use Rattle.fed_event.specs.Names.{is_one_of, select, leave_out}
+use Rattle.fed_redaction.specs.Names.{is_one_of, select, leave_out}
 use Rattle.fed_event.specs.declared.field.Field.TheVariants.{Sender}
 use Rattle.fed_event.specs.Tests.{holds, has_kind, first_fault_of}
 use Rattle.fed_event.specs.Ids.{domain_of, is_id_text}
-use Rattle.fed_event.specs.Redaction.{event_keys, redacted}
-use Rattle.fed_event.specs.EventId.{unsigned_keys, signed_part, signed_text_of}
-use Rattle.fed_event.specs.ContentHash.{uncovered_keys, content_hash_of, given_hash_of, hash_fits_of}
+use Rattle.fed_redaction.specs.Redaction.{event_keys, redacted}
+use Rattle.fed_redaction.specs.EventId.{unsigned_keys, signed_part, signed_text_of}
+use Rattle.fed_redaction.specs.ContentHash.{uncovered_keys, content_hash_of, given_hash_of, hash_fits_of}
 use Rattle.fed_keys.specs.Keys.{Checks}
 use Rattle.fed_event.specs.Signatures.{signature_in, signatures_by, is_signed_by, is_signed}
 use Rattle.fed_event.specs.Checked.{CheckedEvent, checked_of}
 use Rattle.fed_event.specs.Sealing.{sender_text, IsSentBy, holding, hashed_of, signature_text_of, sealed_of}
-use Rattle.fed_event.specs.Laws.{AreUnsigned}
+use Rattle.fed_redaction.specs.Laws.{AreUnsigned}
 use Rattle.fed_event.proofs.Faults.{kind_passed}
-use Rattle.fed_event.proofs.Redacting.{signed_part-leave_out}
+use Rattle.fed_redaction.proofs.Redacting.{signed_part-leave_out}
 
 -- ---- a member that a test drops
 

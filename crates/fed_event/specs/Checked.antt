@@ -8,8 +8,8 @@ use Rattle.fed_json.specs.Code.{coded_data}
 use Rattle.fed_event.specs.Tests.{holds}
 use Rattle.fed_event.specs.Ids.{domain_of}
 use Rattle.fed_event.specs.Fields.{content_of}
-use Rattle.fed_event.specs.Redaction.{redacted}
-use Rattle.fed_event.specs.ContentHash.{hash_fits_of}
+use Rattle.fed_redaction.specs.Redaction.{redacted}
+use Rattle.fed_redaction.specs.ContentHash.{hash_fits_of}
 use Rattle.fed_keys.specs.Keys.{Checks}
 use Rattle.fed_event.specs.Signatures.{is_signed_by}
 

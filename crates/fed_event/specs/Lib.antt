@@ -1,16 +1,10 @@
-pub mod Names
-pub mod Redaction
-pub mod EventId
 pub mod Field
 pub mod Tests
 pub mod Reading
 pub mod Verdict
-pub mod Laws
 pub mod Ids
 pub mod Fields
 pub mod EventIds
-pub mod ContentHash
-pub mod Texts
 pub mod Signatures
 pub mod Checked
 pub mod CheckVerdict
@@ -18,3 +12,9 @@ pub mod Sealing
 pub use Rattle.fed_keys.specs.Keys
 pub use Rattle.fed_keys.specs.StandIn
 pub use Rattle.fed_keys.specs.Trusting
+pub use Rattle.fed_redaction.specs.Names
+pub use Rattle.fed_redaction.specs.Redaction
+pub use Rattle.fed_redaction.specs.EventId
+pub use Rattle.fed_redaction.specs.Laws
+pub use Rattle.fed_redaction.specs.ContentHash
+pub use Rattle.fed_redaction.specs.Texts

@@ -7,8 +7,8 @@ use Rattle.serde_json.specs.Data.{Data, string, object, no_members, member}
 use Rattle.serde_json.specs.Find.{as_str, get}
 use Rattle.fed_json.specs.Editing.{with_member}
 use Rattle.fed_event.specs.Ids.{domain_of}
-use Rattle.fed_event.specs.ContentHash.{content_hash_of}
-use Rattle.fed_event.specs.EventId.{signed_text_of}
+use Rattle.fed_redaction.specs.ContentHash.{content_hash_of}
+use Rattle.fed_redaction.specs.EventId.{signed_text_of}
 
 -- the sender, where there is one that is a text
 abbrev pub sender_text : Data → Option (List ℕ)

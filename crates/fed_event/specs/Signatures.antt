@@ -11,7 +11,7 @@ use Rattle.fed_keys.specs.Keys.{Checks}
 use Rattle.fed_event.specs.Tests.{holds}
 use Rattle.fed_event.specs.Ids.{domain_of}
 use Rattle.fed_event.specs.Fields.{sender_of, signatures_of}
-use Rattle.fed_event.specs.EventId.{signed_text_of}
+use Rattle.fed_redaction.specs.EventId.{signed_text_of}
 
 -- the 64 bytes of a signature, where it decodes to so many
 abbrev pub signature_in : Data → Option (List ℕ)

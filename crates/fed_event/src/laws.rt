@@ -1,54 +1,11 @@
-// What holds of all redactions and ids.
-ghost use Rattle.std.specs.Prelude.{◌≡◌, ◌≢◌, ℕ, List, [], ◌∷◌, true, false, None, IsSome, codes, option_map};
+// What holds of all events.
+ghost use Rattle.std.specs.Prelude.{◌≡◌, None};
 ghost use Rattle.serde_json.specs.Data.{Data};
-ghost use Rattle.serde_json.specs.Find.{as_object, get};
-ghost use Rattle.fed_event.specs.Names.{is_one_of, leave_out};
-ghost use Rattle.fed_event.specs.Redaction.{redacted, event_keys, type_of, content_keys, kept_content};
-ghost use Rattle.fed_event.specs.EventId.{unsigned_keys, signed_part, event_id_of};
-ghost use Rattle.fed_event.specs.Laws.{AreUnsigned};
-ghost use Rattle.fed_event.specs.Tests.{first_fault_of};
 ghost use Rattle.fed_json.specs.Profile.{IsProfile};
-
-/// Redacting twice is redacting once.
-pub fn redacted_once()
-    ensures { (d : Data) → redacted (redacted d) ≡ redacted d }
-{}
-
-/// What redaction leaves under a key of an object: nothing where the key is dropped, of the content what is under its kept keys, and
-/// every other value as it was.
-pub fn what_redaction_keeps()
-    ensures dropped { (d : Data) (k : List ℕ) → IsSome (as_object d) → is_one_of event_keys k ≡ false → get k (redacted d) ≡ None }
-    ensures kept { (d : Data) (k : List ℕ) → is_one_of event_keys k ≡ true → k ≢ codes "content" → get k (redacted d) ≡ get k d }
-    ensures content { (d : Data) → get (codes "content") (redacted d)
-        ≡ option_map (kept_content (content_keys (type_of d))) (get (codes "content") d) }
-    ensures content_dropped { (keys : List (List ℕ)) (d : Data) (k : List ℕ) → is_one_of keys k ≡ false → get k (kept_content keys d) ≡ None }
-    ensures content_kept { (keys : List (List ℕ)) (d : Data) (k : List ℕ) → is_one_of keys k ≡ true → get k (kept_content keys d) ≡ get k d }
-{}
-
-/// An event and its redaction have one id.
-pub fn ids_of_redactions()
-    ensures signed { (d : Data) → signed_part (redacted d) ≡ signed_part d }
-    ensures id { (d : Data) → event_id_of (redacted d) ≡ event_id_of d }
-{}
-
-/// `unsigned`, `signatures` and the top-level keys that redaction drops change neither what is signed nor the id: an event has
-/// those of the event without them, and two events that differ in them alone have the same.
-pub fn unsigned_changes()
-    ensures signed { (names : List (List ℕ)) (d : Data) → AreUnsigned names → signed_part (leave_out names d) ≡ signed_part d }
-    ensures id { (names : List (List ℕ)) (d e : Data) → AreUnsigned names → leave_out names d ≡ leave_out names e
-        → event_id_of d ≡ event_id_of e }
-    ensures unsigned { (d : Data) → event_id_of (leave_out (codes "unsigned" ∷ []) d) ≡ event_id_of d }
-    ensures signatures { (d : Data) → event_id_of (leave_out (codes "signatures" ∷ []) d) ≡ event_id_of d }
-{}
+ghost use Rattle.fed_redaction.specs.Redaction.{redacted};
+ghost use Rattle.fed_event.specs.Tests.{first_fault_of};
 
 /// The redaction of an event that passes all tests of an event passes them too.
 pub fn redaction_passes()
     ensures { (d : Data) → IsProfile d → first_fault_of d ≡ None → first_fault_of (redacted d) ≡ None }
-{}
-
-/// What is signed of an event decides its id, and all that redaction leaves of it but what is under `signatures` and `unsigned`.
-pub fn what_is_signed()
-    ensures id { (d e : Data) → signed_part d ≡ signed_part e → event_id_of d ≡ event_id_of e }
-    ensures left { (d e : Data) (k : List ℕ) → signed_part d ≡ signed_part e → is_one_of unsigned_keys k ≡ false
-        → get k (redacted d) ≡ get k (redacted e) }
 {}

@@ -1,20 +1,17 @@
 // Events that have passed the tests.
 ghost use Rattle.std.specs.Prelude.{◌≡◌, ◌≢◌, Some, None, Ok, Err, IfOk, IfErr, IsOk, IsErr, IsSome, IsNone, IsOkUnless};
 ghost use Rattle.fed_event.specs.declared.fault.PduFault.TheVariants.{Memory};
-ghost use Rattle.fed_event.specs.EventId.{event_id_of};
+ghost use Rattle.fed_redaction.specs.EventId.{event_id_of};
 ghost use Rattle.fed_event.specs.Reading.{read_of};
-ghost use Rattle.fed_event.specs.ContentHash.{hash_fits_of};
-ghost use Rattle.fed_event.specs.Texts.{event_texts};
-ghost use Rattle.fed_event.specs.Redaction.{redacted};
+ghost use Rattle.fed_redaction.specs.ContentHash.{hash_fits_of};
+ghost use Rattle.fed_redaction.specs.Texts.{event_texts};
+ghost use Rattle.fed_redaction.specs.Redaction.{redacted};
 ghost use Rattle.fed_event.specs.Tests.{first_fault_of};
 
 use crate::fault::PduFault;
-use crate::hash::hash_fits;
-use crate::id::{EventId, event_id_of_signed};
-use crate::redaction::redact;
-use crate::texts::Texts;
 use crate::validity::first_fault;
 use fed_json::{Json, JsonFault, MAX_LEVELS, NoMemory, read_within};
+use fed_redaction::{EventId, Texts, event_id_of_signed, hash_fits, redact};
 use std::alloc::Global;
 use std::marker::Model;
 
@@ -39,8 +36,8 @@ impl Model for Pdu {
     ghost use Rattle.std.specs.Prelude.{◌≡◌, None};
     ghost use Rattle.serde_json.specs.Data.{Data};
     ghost use Rattle.fed_json.specs.Code.{coded_data};
-    ghost use Rattle.fed_event.specs.EventId.{event_id_of};
-    ghost use Rattle.fed_event.specs.ContentHash.{hash_fits_of};
+    ghost use Rattle.fed_redaction.specs.EventId.{event_id_of};
+    ghost use Rattle.fed_redaction.specs.ContentHash.{hash_fits_of};
     ghost use Rattle.fed_event.specs.Tests.{first_fault_of};
 
     ghost Value = { Data };

@@ -3,8 +3,8 @@ ghost use Rattle.std.specs.Prelude.{◌≡◌, ◌≢◌, ◌<◌, ◌↔◌, tr
 ghost use Rattle.serde_json.specs.Data.{depth, string};
 ghost use Rattle.serde_json.specs.Read.{max_depth};
 ghost use Rattle.fed_event.specs.declared.fault.PduFault.TheVariants.{Memory};
-ghost use Rattle.fed_event.specs.EventId.{signed_text_of};
-ghost use Rattle.fed_event.specs.ContentHash.{hash_fits_of};
+ghost use Rattle.fed_redaction.specs.EventId.{signed_text_of};
+ghost use Rattle.fed_redaction.specs.ContentHash.{hash_fits_of};
 ghost use Rattle.fed_event.specs.Signatures.{signature_in, is_signed};
 ghost use Rattle.fed_event.specs.Checked.{checked_of};
 ghost use Rattle.fed_event.specs.Tests.{first_fault_of};
@@ -12,13 +12,12 @@ ghost use Rattle.fed_event.specs.Sealing.{sender_text, IsSentBy, holding as obje
 
 use crate::checked::{CheckFault, Checked, check_in};
 use crate::fault::PduFault;
-use crate::hash::content_hash;
 use crate::ids::domain;
 use crate::pdu::Pdu;
-use crate::signed::signed_text;
 use base64::engine::general_purpose::STANDARD_NO_PAD;
 use fed_json::{Json, NoMemory};
 use fed_keys::Keys;
+use fed_redaction::{content_hash, signed_text};
 use std::alloc::Global;
 
 /// Whether the sender of an event, where there is one that is a text, is a user of this server.

@@ -2,7 +2,7 @@
 ghost use Rattle.std.specs.Prelude.{◌≡◌, [], unwrap_or, option_map};
 ghost use Rattle.fed_json.specs.JsonRef.{seen};
 ghost use Rattle.fed_json.specs.Members.{members_left};
-ghost use Rattle.fed_event.specs.EventId.{signed_text_of};
+ghost use Rattle.fed_redaction.specs.EventId.{signed_text_of};
 ghost use Rattle.fed_event.specs.Signatures.{signature_in, signatures_by as signatures_of_server, is_signed_by as is_signed_by_server};
 
 use base64::engine::general_purpose::STANDARD_NO_PAD;

@@ -1,4 +1,5 @@
-//! Tests of `fed_event`, by its public names: what no contract says, and values from outside.
+//! Tests of `fed_event`, by its public names, among them those that it has from `fed_redaction` and `fed_keys`: what no contract says,
+//! and values from outside.
 //!
 //! - `ids`: redactions and ids
 //! - `texts`: the canonical text, the signed text and the text that the content hash covers, side by side

@@ -1,9 +1,9 @@
 use Rattle.std.proofs.Common.{◌≡◌, Bool, true, false, cond, refl}
 use Rattle.serde_json.specs.Data.{Data}
-use Rattle.fed_event.specs.Redaction.{redacted}
-use Rattle.fed_event.specs.EventId.{event_id_of}
-use Rattle.fed_event.specs.ContentHash.{hash_fits_of}
-use Rattle.fed_event.proofs.Redacting.{event_id_of-redacted}
+use Rattle.fed_redaction.specs.Redaction.{redacted}
+use Rattle.fed_redaction.specs.EventId.{event_id_of}
+use Rattle.fed_redaction.specs.ContentHash.{hash_fits_of}
+use Rattle.fed_redaction.proofs.Redacting.{event_id_of-redacted}
 use Rattle.fed_event.proofs.checked.ids_of_checked.Goals as goal
 
 either : (fits : Bool) (event : Data) → event_id_of (cond fits event (redacted event)) ≡ event_id_of event

@@ -1,5 +1,5 @@
 use Rattle.std.proofs.Common.{rules, Err, sym, ap, ◌∙◌, true≢false}
-use Rattle.fed_event.specs.ContentHash.{hash_fits_of}
+use Rattle.fed_redaction.specs.ContentHash.{hash_fits_of}
 use Rattle.fed_event.specs.Signatures.{is_signed}
 use Rattle.fed_event.specs.Tests.{first_fault_of}
 use Rattle.fed_event.specs.Checked.{checked_of}

@@ -1,7 +1,7 @@
 use Rattle.std.proofs.Common.{◌≡◌}
 use Rattle.std.specs.List.{list_any}
 use Rattle.fed_json.specs.Members.{members_left}
-use Rattle.fed_event.specs.EventId.{signed_text_of}
+use Rattle.fed_redaction.specs.EventId.{signed_text_of}
 use Rattle.fed_event.specs.Tests.{holds}
 use Rattle.fed_event.specs.Signatures.{signature_in, is_signed_by}
 use Rattle.fed_event.proofs.signature.is_signed_by.Given as goal

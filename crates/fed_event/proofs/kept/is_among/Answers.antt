@@ -1,6 +1,0 @@
-use Rattle.std.proofs.Common.{◌∙◌}
-use Rattle.fed_event.proofs.KeyAmong.{any-one_of}
-use Rattle.fed_event.proofs.kept.is_among.Goals as goal
-
-pub returns : goal.returns
-returns c = c.contains.ensures.value ∙ any-one_of c.args.keys.now c.args.name.now

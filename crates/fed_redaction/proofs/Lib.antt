@@ -1,0 +1,5 @@
+pub mod Selecting
+pub mod Redacting
+pub mod KeyAmong
+pub mod Parts
+pub mod Building

@@ -1,0 +1,30 @@
+-- What is signed of an event (Matrix, Server-Server API, "Signing Events"), and its id (room version 4, "Event IDs", and "Calculating
+-- the reference hash for an event" of the Server-Server API).
+use Rattle.std.specs.Prelude.{ℕ, List, [], ◌∷◌, ◌++◌, codes}
+use Rattle.sha2.specs.Sha256.{sha256}
+use Rattle.base64.specs.Engines.{url_safe_no_pad}
+use Rattle.base64.specs.GeneralPurpose.{encode_of}
+use Rattle.serde_json.specs.Data.{Data}
+use Rattle.fed_json.specs.CanonicalText.{canonical_text}
+use Rattle.fed_redaction.specs.Names.{leave_out}
+use Rattle.fed_redaction.specs.Redaction.{redacted}
+
+-- the top-level keys that no signature covers
+abbrev pub unsigned_keys : List (List ℕ)
+unsigned_keys = codes "signatures" ∷ codes "unsigned" ∷ []
+
+-- what is signed: the redaction without them
+abbrev pub signed_part : Data → Data
+signed_part event = leave_out unsigned_keys (redacted event)
+
+-- its bytes
+abbrev pub signed_text_of : Data → List ℕ
+signed_text_of event = canonical_text (signed_part event)
+
+-- the id of an event with this signed text: `$` and the reference hash, in the URL-safe alphabet of base64, without padding
+abbrev pub id_of_signed : List ℕ → List ℕ
+id_of_signed text = codes "$" ++ encode_of url_safe_no_pad (sha256 text)
+
+-- the id as a text
+abbrev pub event_id_of : Data → List ℕ
+event_id_of event = id_of_signed (signed_text_of event)

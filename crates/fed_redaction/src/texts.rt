@@ -1,0 +1,201 @@
+// The texts of an event.
+ghost use Rattle.std.specs.Prelude.{◌≡◌, map, codes, IfOk, OnOk};
+ghost use Rattle.serde_json.specs.Data.{Data, object, Members as MemberList, member as first};
+ghost use Rattle.fed_json.specs.CanonicalText.{canonical_text};
+ghost use Rattle.fed_json.specs.JsonRef.{seen};
+ghost use Rattle.fed_json.specs.Members.{members_left};
+ghost use Rattle.fed_redaction.specs.Names.{members_of};
+ghost use Rattle.fed_redaction.specs.Redaction.{kept_content};
+ghost use Rattle.fed_redaction.specs.Texts.{no_texts, event_texts};
+ghost use Rattle.fed_redaction.specs.TextsParts.{member_text, completed, covered_members, signed_members};
+
+use crate::hash::is_covered;
+use crate::kept::{content_keys, is_signed};
+use crate::names::append_name;
+use crate::object_text::ObjectText;
+use crate::redaction::event_type;
+use crate::signed::append_content;
+use fed_json::{Json, JsonRef, Members, NoMemory, canonical};
+use std::alloc::Global;
+use std::marker::Model;
+
+/// The texts of an event: its canonical text, its signed text (Server-Server API, "Signing Events"), and the text that its content hash
+/// covers ("Calculating the content hash for an event"). Made together, each member is written once.
+///
+/// The signed text is the canonical text of the redaction without `signatures` and `unsigned`; the covered one that of the event
+/// without `hashes`, `signatures` and `unsigned`. Of a value that is no object all three are its canonical text.
+#[derive(Drop)]
+pub struct Texts {
+    whole: Vec<u8>,
+    signed: Vec<u8>,
+    covered: Vec<u8>,
+}
+
+impl Model for Texts {
+    ghost use Rattle.fed_redaction.specs.Texts.{EventTexts, texts_code};
+
+    ghost Value = { EventTexts };
+
+    ghost coded = { texts_code };
+
+    ghost view = { λ t. record { whole = t.whole.items; signed = t.signed.items; covered = t.covered.items } };
+}
+
+impl Texts {
+    /// Three empty texts.
+    pub fn new(alloc: Global) -> Texts
+        ensures { result ≡ no_texts }
+    {
+        Texts {
+            whole: Vec::new(alloc),
+            signed: Vec::new(alloc),
+            covered: Vec::new(alloc),
+        }
+    }
+
+    /// The texts of an event, or of another value.
+    pub fn of(alloc: Global, event: &Json) -> Result<Texts, NoMemory>
+        ensures { IfOk result (λ texts. texts ≡ event_texts event.now) }
+    {
+        Texts::new(alloc).rewritten(alloc, event)
+    }
+
+    /// The texts of an event, or of another value, written in the room that these texts have.
+    pub fn rewritten(self, alloc: Global, event: &Json) -> Result<Texts, NoMemory>
+        ensures { IfOk result (λ texts. texts ≡ event_texts event.now) }
+    {
+        let root = event.root();
+        match root.members() {
+            Some(members) => {
+                texts_of_members(alloc, self, members, content_keys(event_type(root)))
+            }
+            None => same_texts(alloc, event),
+        }
+    }
+
+    /// The canonical text.
+    pub fn whole(&self) -> &[u8]
+        ensures { result.now ≡ self.now.whole }
+    {
+        &self.whole
+    }
+
+    /// The signed text.
+    pub fn signed(&self) -> &[u8]
+        ensures { result.now ≡ self.now.signed }
+    {
+        &self.signed
+    }
+
+    /// The signed text, to keep.
+    pub fn into_signed(self) -> Vec<u8>
+        ensures { result.items ≡ self.signed }
+    {
+        let Texts { signed, .. } = self;
+        signed
+    }
+
+    /// The text that the content hash covers.
+    pub fn covered(&self) -> &[u8]
+        ensures { result.now ≡ self.now.covered }
+    {
+        &self.covered
+    }
+}
+
+// The texts of the object of these members, an event whose content keeps these keys, in the room of others.
+fn texts_of_members(
+    alloc: Global,
+    room: Texts,
+    members: Members<'_>,
+    keys: &[&str],
+) -> Result<Texts, NoMemory>
+    ensures { let all = members_of (members_left members.entry) in
+        let signed = signed_members (map (λ key. key.now) keys.now) all in
+        IfOk result (λ texts. (texts.whole ≡ canonical_text (object all))
+        × (texts.signed ≡ canonical_text (object signed))
+        × (texts.covered ≡ canonical_text (object (covered_members all)))) }
+{
+    let mut whole = ObjectText::begin(room.whole)?;
+    let mut signed = ObjectText::begin(room.signed)?;
+    let mut covered = ObjectText::begin(room.covered)?;
+    for (name, value) in members {
+        let start = whole.add(alloc, name, value)?;
+        let member = whole.text_from(start);
+        covered_with(&mut covered, name, member)?;
+        signed_with(alloc, &mut signed, name, value, member, keys)?;
+    }
+    Ok(Texts {
+        whole: whole.end()?,
+        signed: signed.end()?,
+        covered: covered.end()?,
+    })
+}
+
+// Writes a member where the content hash covers it.
+fn covered_with(covered: &mut ObjectText, name: &str, member: &[u8]) -> Result<(), NoMemory>
+    ensures { OnOk result ((value : Data) (rest : MemberList) → member.now ≡ member_text name.now value
+        → completed covered.new (covered_members rest)
+        ≡ completed covered.old (covered_members (first name.now value rest))) }
+{
+    if is_covered(name) {
+        covered.copy(member)?;
+    }
+    Ok(())
+}
+
+// Writes a member where it is signed, the content with these keys alone.
+fn signed_with(
+    alloc: Global,
+    signed: &mut ObjectText,
+    name: &str,
+    value: JsonRef<'_>,
+    member: &[u8],
+    keys: &[&str],
+) -> Result<(), NoMemory>
+    requires { member.now ≡ member_text name.now (seen value) }
+    ensures { let kept = map (λ key. key.now) keys.now in
+        OnOk result ((rest : MemberList) → completed signed.new (signed_members kept rest)
+        ≡ completed signed.old (signed_members kept (first name.now (seen value.entry) rest))) }
+{
+    if !is_signed(name) {
+        return Ok(());
+    }
+    if name == "content" {
+        signed_with_content(alloc, signed, value, keys)
+    } else {
+        signed.copy(member)
+    }
+}
+
+// Writes the content with these keys alone.
+fn signed_with_content(
+    alloc: Global,
+    signed: &mut ObjectText,
+    content: JsonRef<'_>,
+    keys: &[&str],
+) -> Result<(), NoMemory>
+    ensures { let kept = kept_content (map (λ key. key.now) keys.now) (seen content.entry) in
+        OnOk result ((rest : MemberList) → completed signed.new rest
+        ≡ completed signed.old (first (codes "content") kept rest)) }
+{
+    append_name(&mut signed.text, signed.later, "content")?;
+    signed.later = true;
+    append_content(alloc, &mut signed.text, content, keys)?;
+    Ok(())
+}
+
+// The texts of a value that is no object.
+fn same_texts(alloc: Global, value: &Json) -> Result<Texts, NoMemory>
+    ensures { let text = canonical_text value.now in
+        IfOk result (λ texts. (texts.whole ≡ text) × (texts.signed ≡ text) × (texts.covered ≡ text)) }
+{
+    let whole = canonical(alloc, value)?;
+    let signed = Vec::from_slice(alloc, &whole)?;
+    let covered = Vec::from_slice(alloc, &whole)?;
+    Ok(Texts {
+        whole,
+        signed,
+        covered,
+    })
+}
