@@ -38,7 +38,7 @@ none_at test (y ∷ ys) (suc i) x h is =
     elim (test y) as (λ b. cond b (Some y) (find test ys) ≡ None → test x ≡ false)
     [ true ↦ λ none. absurd (cc) | false ↦ λ none. none_at test ys i x none is ] h
 
-passed : (event : Data) → first_fault_of event ≡ None → (i : ℕ) (fault : PduFault) → slice_get all_tests i ≡ Some fault → fails event fault ≡ false
+pub passed : (event : Data) → first_fault_of event ≡ None → (i : ℕ) (fault : PduFault) → slice_get all_tests i ≡ Some fault → fails event fault ≡ false
 unfolding first_fault_of
 passed event h i fault is = none_at (fails event) all_tests i fault h is
 
@@ -47,7 +47,7 @@ held test None there kind = absurd (cc)
 held test (Some value) there kind = elim (test value) as (λ b. not b ≡ false → b ≡ true) [ true ↦ λ h. refl | false ↦ λ h. absurd (cc) ] kind
 
 -- a field that no event lacks passes its test and that of its kind
-passed_both : (event : Data) (field : Field) → first_fault_of event ≡ None → IsTrue (is_needed field) → (fails event (Missing field) ≡ false) × (fails event (WrongKind field) ≡ false)
+pub passed_both : (event : Data) (field : Field) → first_fault_of event ≡ None → IsTrue (is_needed field) → (fails event (Missing field) ≡ false) × (fails event (WrongKind field) ≡ false)
 passed_both event Event h needed = absurd (cc)
 passed_both event AuthEvents h needed = (passed event h 3 (Missing AuthEvents) refl, passed event h 13 (WrongKind AuthEvents) refl)
 passed_both event Content h needed = (passed event h 4 (Missing Content) refl, passed event h 14 (WrongKind Content) refl)

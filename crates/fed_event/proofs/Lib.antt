@@ -3,3 +3,5 @@ pub mod Faults
 pub mod Reading
 pub mod DecodedSignatures
 pub mod SealedEvents
+pub mod Events
+pub mod SealedParts

@@ -1,17 +1,17 @@
 -- An event that has passed the checks on receipt that need no room (Matrix, Server-Server API, "Checks performed on receipt of a
 -- PDU", checks 1 to 3).
-use Rattle.std.specs.Prelude.{ℕ, List, Bool, Option, refl, codes, if◌then◌else◌, option_and_then}
+use Rattle.std.specs.Prelude.{◌≡◌, ℕ, List, Bool, true, Option, None, refl, codes, if◌then◌else◌, option_and_then}
 use Rattle.std.specs.Coded.{Coded, code_by, coded×, coded_bool}
 use Rattle.serde_json.specs.Data.{Data}
 use Rattle.serde_json.specs.Find.{as_str, get}
 use Rattle.fed_json.specs.Code.{coded_data}
-use Rattle.fed_event.specs.Tests.{holds}
+use Rattle.fed_event.specs.Tests.{holds, first_fault_of}
 use Rattle.fed_event.specs.Ids.{domain_of}
 use Rattle.fed_event.specs.Fields.{content_of}
 use Rattle.fed_redaction.specs.Redaction.{redacted}
 use Rattle.fed_redaction.specs.ContentHash.{hash_fits_of}
 use Rattle.fed_keys.specs.Keys.{Checks}
-use Rattle.fed_event.specs.Signatures.{is_signed_by}
+use Rattle.fed_event.specs.Signatures.{is_signed_by, is_signed}
 
 -- the event, and whether the server of the user that authorises its join has signed it
 pub record CheckedEvent : Type 0 where
@@ -34,3 +34,11 @@ checked_of checks event = record {
   event = if hash_fits_of event then event else redacted event;
   authorised = is_authorised checks event;
 }
+
+-- it is what these keys leave of an event that passes its tests and that its sender's server has signed
+abbrev pub IsCheckedUnder : Checks → CheckedEvent → Type 0
+IsCheckedUnder checks checked = (event : Data) × (first_fault_of event ≡ None) × (is_signed checks event ≡ true) × (checked ≡ checked_of checks event)
+
+-- some keys leave it
+abbrev pub IsChecked : CheckedEvent → Type 0
+IsChecked checked = ∥ ((checks : Checks) × IsCheckedUnder checks checked) ∥₁

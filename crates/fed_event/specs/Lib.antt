@@ -4,6 +4,7 @@ pub mod Reading
 pub mod Verdict
 pub mod Ids
 pub mod Fields
+pub mod Event
 pub mod EventIds
 pub mod Signatures
 pub mod Checked

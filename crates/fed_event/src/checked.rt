@@ -1,5 +1,5 @@
 // Events that have passed the checks on receipt.
-ghost use Rattle.std.specs.Prelude.{◌≡◌, true, false, IfOk, OnOk, IsErrOf, string_bytes, option_map, if◌then◌else◌};
+ghost use Rattle.std.specs.Prelude.{◌≡◌, true, false, Err, IfOk, OnOk, IsErrOf, string_bytes, option_map, if◌then◌else◌};
 ghost use Rattle.serde_json.specs.Data.{Data};
 ghost use Rattle.fed_event.specs.declared.checked.CheckFault.TheVariants.{Memory};
 ghost use Rattle.fed_redaction.specs.Redaction.{redacted};
@@ -30,19 +30,24 @@ pub struct Checked {
 }
 
 impl Model for Checked {
-    ghost use Rattle.fed_event.specs.Checked.{CheckedEvent, checked_code};
+    ghost use Rattle.fed_event.specs.Checked.{CheckedEvent, checked_code, IsChecked};
 
     ghost Value = { CheckedEvent };
 
     ghost coded = { checked_code };
 
     ghost view = { λ c. record { event = c.event; authorised = c.authorised } };
+
+    ghost invariant = { λ c. IsChecked (record { event = c.event; authorised = c.authorised }) };
 }
 
 impl Checked {
-    /// The event, perhaps redacted.
+    ghost use Rattle.fed_event.specs.Checked.{IsChecked};
+
+    /// The event, perhaps redacted: under some keys, what the checks leave of an event that its sender's server has signed.
     pub fn event(&self) -> &Pdu
-        ensures { result.now ≡ self.now.event }
+        ensures event { result.now ≡ self.now.event }
+        ensures checked { IsChecked self.now }
     {
         &self.event
     }
@@ -112,7 +117,7 @@ pub fn check_in<K: Keys>(alloc: Global, event: Pdu, keys: &K) -> Result<Checked,
     check_signed(alloc, event, &signed, keys)
 }
 
-/// `check_in`, for a caller that has the signed text of the event.
+/// `check_in`, for a caller that has the signed text of the event. That it is not signed is told without memory.
 ///
 /// # Errors
 ///
@@ -124,6 +129,7 @@ pub fn check_signed<K: Keys>(
     keys: &K,
 ) -> Result<Checked, CheckFault>
     requires { signed.now ≡ signed_text_of event }
+    ensures refuses { is_signed_by_sender (K.checks keys.now) event ≡ false → result ≡ Err CheckFault.BadSignature }
     ensures ok { IfOk result (λ checked. checked ≡ checked_of (K.checks keys.now) event) }
     ensures signed { OnOk result (is_signed_by_sender (K.checks keys.now) event ≡ true) }
     ensures unsigned { IsErrOf result CheckFault.BadSignature → is_signed_by_sender (K.checks keys.now) event ≡ false }

@@ -31,11 +31,12 @@ pub use fault::PduFault;
 pub use fed_keys::{Keys, StandIn, Trusting, stand_ins_agree};
 pub use fed_redaction::{
     EventId, Texts, content_hash, event_id, event_id_of_signed, ids_of_redactions, redact,
-    redacted_once, signed_text, unsigned_changes, what_is_signed, what_redaction_keeps,
+    redacted_once, signed_text, unsigned_changes, what_ids_are, what_is_signed,
+    what_redaction_keeps, what_the_hash_covers,
 };
 pub use field::Field;
 pub use ids::{domain, is_user_id};
-pub use laws::redaction_passes;
+pub use laws::{redaction_passes, what_an_event_has, what_is_sealed};
 pub use pdu::Pdu;
 pub use sealing::{is_sent_by, seal};
 pub use signature::{is_signed_by, signature_of};

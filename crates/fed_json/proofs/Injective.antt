@@ -38,12 +38,15 @@ abbrev mutual
   members_of json.no_members = no_members
   members_of (json.member k j ms) = member k (value_of j) (members_of ms)
 
+pub number_read : (n : Num) → is_whole n ≡ true → number_of (number_text n) ≡ Some n
+number_read (unsigned n) h = let small : n < 2 ^ 53 = ltb-true n (2 ^ 53) h in number_of-decimal n (omega arith)
+number_read (negative (pos n)) h = absurd (cc)
+number_read (negative (negsuc n)) h = let small : n < 2 ^ 53 - 1 = ltb-true n (2 ^ 53 - 1) h in number_of-negative n (omega arith)
+number_read (float x) h = absurd (cc)
+
 number_back : (n : Num) → is_whole n ≡ true → num_or (number_of (number_text n)) ≡ n
 unfolding num_or
-number_back (unsigned n) h = let small : n < 2 ^ 53 = ltb-true n (2 ^ 53) h in ap num_or (number_of-decimal n (omega arith))
-number_back (negative (pos n)) h = absurd (cc)
-number_back (negative (negsuc n)) h = let small : n < 2 ^ 53 - 1 = ltb-true n (2 ^ 53 - 1) h in ap num_or (number_of-negative n (omega arith))
-number_back (float x) h = absurd (cc)
+number_back n h = ap num_or (number_read n h)
 
 is_number : (n : Num) → is_whole n ≡ true → IsNumber (number_text n)
 is_number (unsigned n) h = let small : n < 2 ^ 53 = ltb-true n (2 ^ 53) h in IsNumber-decimal n (omega arith)
@@ -86,7 +89,7 @@ mutual
   members_have_numbers (member k d ms) h = let p = and_parts (all_whole d) _ h in (has_numbers d p.0, members_have_numbers ms p.1)
 
 -- the text's tokens are those of the value's tree
-text_tokens : (d : Data) → all_whole d ≡ true → tokens (compact_text d) ≡ tree.json_tokens (outline d)
+pub text_tokens : (d : Data) → all_whole d ≡ true → tokens (compact_text d) ≡ tree.json_tokens (outline d)
 text_tokens d h = ap tokens (sym (print-outline d)) ∙ tokens-print (tree.json_tokens (outline d)) (ArePrintable-json_tokens (outline d) (has_numbers d h))
 
 tree_or : Option (json.Json × List Token) → json.Json

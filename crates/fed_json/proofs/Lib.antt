@@ -4,3 +4,5 @@ pub mod CanonicalTexts
 pub mod Injective
 pub mod Parts
 pub mod TextMaps
+pub mod Edited
+pub mod ReadBack

@@ -29,6 +29,7 @@ impl<'a> JsonRef<'a> {
     ghost use Rattle.std.specs.Prelude.{option_map, ◌↔◌, ◌++◌, IsTrue, IsSome, IfOk, OnOk, OnErr};
     ghost use Rattle.serde_json.specs.Find.{as_bool, as_str, as_object, get};
     ghost use Rattle.fed_json.specs.CanonicalText.{canonical_text};
+    ghost use Rattle.fed_json.specs.Reading.{ReadsAs};
     ghost use Rattle.fed_json.specs.JsonRef.{seen, as_whole, as_items, as_members};
     ghost use Rattle.fed_json.specs.Items.{left};
     ghost use Rattle.fed_json.specs.Members.{members_left};
@@ -104,10 +105,11 @@ impl<'a> JsonRef<'a> {
         Ok(Json { value })
     }
 
-    /// Appends the canonical text of the value. An error leaves `out` as it was.
+    /// Appends the canonical text of the value, which is UTF-8 and is read as the value again. An error leaves `out` as it was.
     pub fn append_to(self, alloc: Global, out: &mut Vec<u8>) -> Result<(), NoMemory>
         ensures ok { OnOk result
             (out.new.items ≡ out.old.items ++ canonical_text (seen self.entry)) }
+        ensures reads_back { OnOk result (ReadsAs (canonical_text (seen self.entry)) (seen self.entry)) }
         ensures err { OnErr result (out.new.items ≡ out.old.items) }
     {
         if let Value::String(text) = self.value {

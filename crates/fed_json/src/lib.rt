@@ -25,7 +25,7 @@ mod writing;
 pub use fault::{JsonFault, NoMemory};
 pub use items::Items;
 pub use json_ref::JsonRef;
-pub use laws::{key_order, one_text, texts_differ};
+pub use laws::{key_order, one_text, texts_are_read, texts_differ, what_is_put, what_is_taken};
 pub use members::Members;
 pub use reading::{MAX_LEVELS, read, read_within};
 pub use value::Json;

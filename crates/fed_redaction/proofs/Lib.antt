@@ -3,3 +3,5 @@ pub mod Redacting
 pub mod KeyAmong
 pub mod Parts
 pub mod Building
+pub mod IdTexts
+pub mod Covering

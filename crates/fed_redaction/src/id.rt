@@ -31,13 +31,20 @@ impl Model for EventId {
 
     ghost coded = { coded_list coded_ℕ };
 
+    ghost use Rattle.fed_redaction.specs.EventId.{IsIdText};
+
     ghost view = { λ id. string_bytes id.text };
+
+    ghost invariant = { λ id. IsIdText (string_bytes id.text) };
 }
 
 impl EventId {
-    /// The text of the id.
+    ghost use Rattle.fed_redaction.specs.EventId.{IsIdText};
+
+    /// The text of the id: `$` and 43 characters of the URL-safe alphabet of base64.
     pub fn as_str(&self) -> &str
-        ensures { result.now ≡ self.now }
+        ensures text { result.now ≡ self.now }
+        ensures form { IsIdText self.now }
     {
         self.text.as_str()
     }

@@ -1,11 +1,12 @@
 // What holds of all redactions and ids.
-ghost use Rattle.std.specs.Prelude.{◌≡◌, ◌≢◌, ℕ, List, [], ◌∷◌, true, false, None, IsSome, codes, option_map};
+ghost use Rattle.std.specs.Prelude.{◌≡◌, ◌≢◌, ℕ, List, [], ◌∷◌, true, false, None, IsSome, is_some, codes, option_map};
 ghost use Rattle.serde_json.specs.Data.{Data};
 ghost use Rattle.serde_json.specs.Find.{as_object, get};
 ghost use Rattle.fed_redaction.specs.Names.{is_one_of, leave_out};
 ghost use Rattle.fed_redaction.specs.Redaction.{redacted, event_keys, type_of, content_keys, kept_content};
-ghost use Rattle.fed_redaction.specs.EventId.{unsigned_keys, signed_part, event_id_of};
-ghost use Rattle.fed_redaction.specs.Laws.{AreUnsigned};
+ghost use Rattle.fed_redaction.specs.EventId.{unsigned_keys, signed_part, id_of_signed, IsIdText, event_id_of};
+ghost use Rattle.fed_redaction.specs.ContentHash.{uncovered_keys, covered_part, content_hash_of};
+ghost use Rattle.fed_redaction.specs.Laws.{AreUnsigned, AreUncovered};
 
 /// Redacting twice is redacting once.
 pub fn redacted_once()
@@ -13,8 +14,9 @@ pub fn redacted_once()
 {}
 
 /// What redaction leaves under a key of an object: nothing where the key is dropped, of the content what is under its kept keys, and
-/// every other value as it was.
+/// every other value as it was. An object is left exactly of an object.
 pub fn what_redaction_keeps()
+    ensures object { (d : Data) → is_some (as_object (redacted d)) ≡ is_some (as_object d) }
     ensures dropped { (d : Data) (k : List ℕ) → IsSome (as_object d) → is_one_of event_keys k ≡ false → get k (redacted d) ≡ None }
     ensures kept { (d : Data) (k : List ℕ) → is_one_of event_keys k ≡ true → k ≢ codes "content" → get k (redacted d) ≡ get k d }
     ensures content { (d : Data) → get (codes "content") (redacted d)
@@ -44,4 +46,17 @@ pub fn what_is_signed()
     ensures id { (d e : Data) → signed_part d ≡ signed_part e → event_id_of d ≡ event_id_of e }
     ensures left { (d e : Data) (k : List ℕ) → signed_part d ≡ signed_part e → is_one_of unsigned_keys k ≡ false
         → get k (redacted d) ≡ get k (redacted e) }
+{}
+
+/// Every id is `$` and 43 characters of the URL-safe alphabet of base64.
+pub fn what_ids_are()
+    ensures { (text : List ℕ) → IsIdText (id_of_signed text) }
+{}
+
+/// `unsigned`, `signatures` and `hashes` do not change the content hash: an event has that of the event without them. What else stands
+/// in an event decides it.
+pub fn what_the_hash_covers()
+    ensures hash { (names : List (List ℕ)) (d : Data) → AreUncovered names → content_hash_of (leave_out names d) ≡ content_hash_of d }
+    ensures same { (d e : Data) → covered_part d ≡ covered_part e → content_hash_of d ≡ content_hash_of e }
+    ensures left { (d e : Data) (k : List ℕ) → covered_part d ≡ covered_part e → is_one_of uncovered_keys k ≡ false → get k d ≡ get k e }
 {}

@@ -23,7 +23,8 @@ mod texts;
 pub use hash::{content_hash, hash_fits};
 pub use id::{EventId, event_id, event_id_of_signed};
 pub use laws::{
-    ids_of_redactions, redacted_once, unsigned_changes, what_is_signed, what_redaction_keeps,
+    ids_of_redactions, redacted_once, unsigned_changes, what_ids_are, what_is_signed,
+    what_redaction_keeps, what_the_hash_covers,
 };
 pub use redaction::redact;
 pub use signed::signed_text;

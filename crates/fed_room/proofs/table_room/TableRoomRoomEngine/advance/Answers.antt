@@ -38,9 +38,9 @@ returns-clause-stored c =
     let event = c.in-Some.event.now in
     let whole : first_ready (room_of self) ≡ Some event =
     ap (λ (r : TableRoomState). first_ready (room_of r)) (sym c.self.view_is) ∙ ap (find (λ (e : CheckedEvent). is_ready c.self.inside.graph.stored e.event)) (sym c.deref.ensures.value) ∙ sym c.in-Some.ensures in
-    let id : c.in_ok-id.id ≡ event_id event = c.in_ok-id.ensures ∙ c.id.ensures ∙ ap event_id_of c.event-2.ensures ∙ ap event_id c.in_ok-event.ensures in
+    let id : c.in_ok-id.id ≡ event_id event = c.in_ok-id.ensures ∙ c.id.ensures ∙ ap event_id_of c.event-2.ensures.event ∙ ap event_id c.in_ok-event.ensures in
     let verdict : c.verdict-verdict.result ≡ verdict_at self.table (event_id event) =
-    c.verdict-verdict.ensures ∙ ap (verdict_at c.self.inside.table) (c.as_str.ensures ∙ id) ∙ ap (λ (r : TableRoomState). verdict_at r.table (event_id event)) c.self.view_is in
+    c.verdict-verdict.ensures ∙ ap (verdict_at c.self.inside.table) (c.as_str.ensures.text ∙ id) ∙ ap (λ (r : TableRoomState). verdict_at r.table (event_id event)) c.self.view_is in
     ap (λ (i : List ℕ). Some (i, receipt.Stored c.verdict-verdict.result)) id ∙ ap (λ (v : Verdict). Some (event_id event, receipt.Stored v)) verdict
     ∙ sym (ap (option_map (λ (e : CheckedEvent). (event_id e, receipt.Stored (verdict_at self.table (event_id e))))) whole)
 
@@ -50,9 +50,9 @@ returns-clause-after c =
     let event = c.in-Some.event.now in
     let whole : first_ready (room_of self) ≡ Some event =
     ap (λ (r : TableRoomState). first_ready (room_of r)) (sym c.self.view_is) ∙ ap (find (λ (e : CheckedEvent). is_ready c.self.inside.graph.stored e.event)) (sym c.deref.ensures.value) ∙ sym c.in-Some.ensures in
-    let id : c.in_ok-id.id ≡ event_id event = c.in_ok-id.ensures ∙ c.id.ensures ∙ ap event_id_of c.event-2.ensures ∙ ap event_id c.in_ok-event.ensures in
+    let id : c.in_ok-id.id ≡ event_id event = c.in_ok-id.ensures ∙ c.id.ensures ∙ ap event_id_of c.event-2.ensures.event ∙ ap event_id c.in_ok-event.ensures in
     let verdict : c.verdict-verdict.result ≡ verdict_at self.table (event_id event) =
-    c.verdict-verdict.ensures ∙ ap (verdict_at c.self.inside.table) (c.as_str.ensures ∙ id) ∙ ap (λ (r : TableRoomState). verdict_at r.table (event_id event)) c.self.view_is in
+    c.verdict-verdict.ensures ∙ ap (verdict_at c.self.inside.table) (c.as_str.ensures.text ∙ id) ∙ ap (λ (r : TableRoomState). verdict_at r.table (event_id event)) c.self.view_is in
     let kept : c.reserve.new.self.stored ≡ c.self.inside.graph.stored = ap (λ (g : GraphState). g.stored) c.in_ok-reserve.ensures.ok in
     c.store.ensures.room
     ∙ ap (λ (xs : List Stored). with_stored (record { stored = xs; waiting = c.self.inside.waiting.items; dropped = c.self.inside.dropped }) c.in_ok-event.event c.verdict-verdict.result) kept

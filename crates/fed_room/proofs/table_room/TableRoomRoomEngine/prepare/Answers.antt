@@ -24,7 +24,7 @@ returns-clause-prepared g c =
     let keys = c.args.keys.now in
     let signer = signer_of (g.K.Keys.own_name keys) (g.K.Keys.own_key keys) (g.K.Keys.own_signature keys) (g.K.Keys.checks keys) in
     let stored = c.reserve.new.self.stored in
-    let id : c.in_ok-id.id ≡ event_id c.in_ok-event.event = c.in_ok-id.ensures ∙ c.id.ensures ∙ ap event_id_of c.event-2.ensures in
+    let id : c.in_ok-id.id ≡ event_id c.in_ok-event.event = c.in_ok-id.ensures ∙ c.id.ensures ∙ ap event_id_of c.event-2.ensures.event in
     record {
       reserved = ap (λ (r : GraphState). r.reserved) c.in_ok-reserve.ensures.ok ∙ ap Some id ∙ sym (ap (λ (p : PreparedEvent). Some (event_id p.event)) c.new.ensures);
       ready = ap (λ (p : PreparedEvent). is_ready stored p.event.event) c.new.ensures ∙ ap (is_ready stored) c.in_ok-event.ensures.sealed ∙ ready-sealed signer c.args.draft stored;
@@ -36,8 +36,8 @@ returns-in-Rejected-clause-fault g c other =
     let signer = signer_of (g.K.Keys.own_name keys) (g.K.Keys.own_key keys) (g.K.Keys.own_signature keys) (g.K.Keys.checks keys) in
     let self = c.args.self.now in
     let event = c.in_ok-event.event in
-    let id : c.in_ok-id.id ≡ event_id event = c.in_ok-id.ensures ∙ c.id.ensures ∙ ap event_id_of c.event-2.ensures in
-    let verdict = ap (λ (r : TableRoomState). verdict_at r.table (event_id event)) (sym c.self.view_is) ∙ ap (verdict_at c.self.inside.table) (sym (c.as_str.ensures ∙ id)) ∙ sym c.in-Rejected.ensures in
+    let id : c.in_ok-id.id ≡ event_id event = c.in_ok-id.ensures ∙ c.id.ensures ∙ ap event_id_of c.event-2.ensures.event in
+    let verdict = ap (λ (r : TableRoomState). verdict_at r.table (event_id event)) (sym c.self.view_is) ∙ ap (verdict_at c.self.inside.table) (sym (c.as_str.ensures.text ∙ id)) ∙ sym c.in-Rejected.ensures in
     let refused : prepared_of (rules_of self.table) signer self.graph.stored c.args.draft ≡ Err (NotAllowed c.in-Rejected.rule) =
     prepared-made self.table signer self.graph.stored c.args.draft event c.in_ok-event.ensures.ok ∙ ap (if_accepted (rules_of self.table) signer self.graph.stored event) verdict in
     refused
@@ -48,8 +48,8 @@ returns-in-Rejected-clause-only g c allowed =
     let signer = signer_of (g.K.Keys.own_name keys) (g.K.Keys.own_key keys) (g.K.Keys.own_signature keys) (g.K.Keys.checks keys) in
     let self = c.args.self.now in
     let event = c.in_ok-event.event in
-    let id : c.in_ok-id.id ≡ event_id event = c.in_ok-id.ensures ∙ c.id.ensures ∙ ap event_id_of c.event-2.ensures in
-    let verdict = ap (λ (r : TableRoomState). verdict_at r.table (event_id event)) (sym c.self.view_is) ∙ ap (verdict_at c.self.inside.table) (sym (c.as_str.ensures ∙ id)) ∙ sym c.in-Rejected.ensures in
+    let id : c.in_ok-id.id ≡ event_id event = c.in_ok-id.ensures ∙ c.id.ensures ∙ ap event_id_of c.event-2.ensures.event in
+    let verdict = ap (λ (r : TableRoomState). verdict_at r.table (event_id event)) (sym c.self.view_is) ∙ ap (verdict_at c.self.inside.table) (sym (c.as_str.ensures.text ∙ id)) ∙ sym c.in-Rejected.ensures in
     let refused : prepared_of (rules_of self.table) signer self.graph.stored c.args.draft ≡ Err (NotAllowed c.in-Rejected.rule) =
     prepared-made self.table signer self.graph.stored c.args.draft event c.in_ok-event.ensures.ok ∙ ap (if_accepted (rules_of self.table) signer self.graph.stored event) verdict in
     absurd (true≢false (sym allowed ∙ ap is_ok refused))
@@ -60,8 +60,8 @@ returns-in-SoftFailed-clause-fault g c other =
     let signer = signer_of (g.K.Keys.own_name keys) (g.K.Keys.own_key keys) (g.K.Keys.own_signature keys) (g.K.Keys.checks keys) in
     let self = c.args.self.now in
     let event = c.in_ok-event.event in
-    let id : c.in_ok-id.id ≡ event_id event = c.in_ok-id.ensures ∙ c.id.ensures ∙ ap event_id_of c.event-2.ensures in
-    let verdict = ap (λ (r : TableRoomState). verdict_at r.table (event_id event)) (sym c.self.view_is) ∙ ap (verdict_at c.self.inside.table) (sym (c.as_str.ensures ∙ id)) ∙ sym c.in-SoftFailed.ensures in
+    let id : c.in_ok-id.id ≡ event_id event = c.in_ok-id.ensures ∙ c.id.ensures ∙ ap event_id_of c.event-2.ensures.event in
+    let verdict = ap (λ (r : TableRoomState). verdict_at r.table (event_id event)) (sym c.self.view_is) ∙ ap (verdict_at c.self.inside.table) (sym (c.as_str.ensures.text ∙ id)) ∙ sym c.in-SoftFailed.ensures in
     let refused : prepared_of (rules_of self.table) signer self.graph.stored c.args.draft ≡ Err (NotAllowed c.in-SoftFailed.rule) =
     prepared-made self.table signer self.graph.stored c.args.draft event c.in_ok-event.ensures.ok ∙ ap (if_accepted (rules_of self.table) signer self.graph.stored event) verdict in
     refused
@@ -72,8 +72,8 @@ returns-in-SoftFailed-clause-only g c allowed =
     let signer = signer_of (g.K.Keys.own_name keys) (g.K.Keys.own_key keys) (g.K.Keys.own_signature keys) (g.K.Keys.checks keys) in
     let self = c.args.self.now in
     let event = c.in_ok-event.event in
-    let id : c.in_ok-id.id ≡ event_id event = c.in_ok-id.ensures ∙ c.id.ensures ∙ ap event_id_of c.event-2.ensures in
-    let verdict = ap (λ (r : TableRoomState). verdict_at r.table (event_id event)) (sym c.self.view_is) ∙ ap (verdict_at c.self.inside.table) (sym (c.as_str.ensures ∙ id)) ∙ sym c.in-SoftFailed.ensures in
+    let id : c.in_ok-id.id ≡ event_id event = c.in_ok-id.ensures ∙ c.id.ensures ∙ ap event_id_of c.event-2.ensures.event in
+    let verdict = ap (λ (r : TableRoomState). verdict_at r.table (event_id event)) (sym c.self.view_is) ∙ ap (verdict_at c.self.inside.table) (sym (c.as_str.ensures.text ∙ id)) ∙ sym c.in-SoftFailed.ensures in
     let refused : prepared_of (rules_of self.table) signer self.graph.stored c.args.draft ≡ Err (NotAllowed c.in-SoftFailed.rule) =
     prepared-made self.table signer self.graph.stored c.args.draft event c.in_ok-event.ensures.ok ∙ ap (if_accepted (rules_of self.table) signer self.graph.stored event) verdict in
     absurd (true≢false (sym allowed ∙ ap is_ok refused))
@@ -84,9 +84,9 @@ returns-clause-ok g c =
     let signer = signer_of (g.K.Keys.own_name keys) (g.K.Keys.own_key keys) (g.K.Keys.own_signature keys) (g.K.Keys.checks keys) in
     let self = c.args.self.now in
     let event = c.in_ok-event.event in
-    let id : c.in_ok-id.id ≡ event_id event = c.in_ok-id.ensures ∙ c.id.ensures ∙ ap event_id_of c.event-2.ensures in
-    let verdict = ap (λ (r : TableRoomState). verdict_at r.table (event_id event)) (sym c.self.view_is) ∙ ap (verdict_at c.self.inside.table) (sym (c.as_str.ensures ∙ id)) ∙ sym c.in-Accepted.ensures in
+    let id : c.in_ok-id.id ≡ event_id event = c.in_ok-id.ensures ∙ c.id.ensures ∙ ap event_id_of c.event-2.ensures.event in
+    let verdict = ap (λ (r : TableRoomState). verdict_at r.table (event_id event)) (sym c.self.view_is) ∙ ap (verdict_at c.self.inside.table) (sym (c.as_str.ensures.text ∙ id)) ∙ sym c.in-Accepted.ensures in
     let before : c.in_ok-before.before ≡ before_at self.table (event_id event) =
-    c.in_ok-before.ensures ∙ ap (before_at c.self.inside.table) (c.as_str-2.ensures ∙ id) ∙ ap (λ (r : TableRoomState). before_at r.table (event_id event)) c.self.view_is in
+    c.in_ok-before.ensures ∙ ap (before_at c.self.inside.table) (c.as_str-2.ensures.text ∙ id) ∙ ap (λ (r : TableRoomState). before_at r.table (event_id event)) c.self.view_is in
     prepared-made self.table signer self.graph.stored c.args.draft event c.in_ok-event.ensures.ok ∙ ap (if_accepted (rules_of self.table) signer self.graph.stored event) verdict
     ∙ sym (ap (λ (p : PreparedEvent). Ok p) c.new.ensures ∙ ap (λ (b : StateMap). Ok (record { event = event; before = b })) before)

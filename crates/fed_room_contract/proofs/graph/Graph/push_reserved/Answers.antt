@@ -17,7 +17,7 @@ invariant_of-self c =
     let same : xs ≡ c.args.self.now.stored = ap (λ (g : GraphState). g.stored) c.self.view_is in
     let items : c.push.new.self.items ≡ xs ++ last ∷ [] = c.push.ensures.items ∙ ap (λ r. if is_ok r then xs ++ last ∷ [] else xs) c.unwrap.ensures in
     let next : IsNext xs last = subst (λ (ys : List Stored). IsNext ys last) (sym same) (record { new = c.requires.new; ready = c.requires.ready }) in
-    let id : c.as_str.result.now ≡ id_of last = c.as_str.ensures ∙ c.id.ensures ∙ ap event_id_of c.event.ensures in
+    let id : c.as_str.result.now ≡ id_of last = c.as_str.ensures.text ∙ c.id.ensures ∙ ap event_id_of c.event.ensures.event in
     let len : c.len-place.result ≡ length xs = let fact = old.events.ok.0 in let counted = c.len-place.ensures in omega arith in
     let places : c.enter.new.self ≡ finite.insert old.places (id_of last) (Some (length xs)) =
     c.enter.ensures ∙ ap (λ k. finite.insert old.places k (Some c.len-place.result)) id ∙ ap (λ (n : ℕ). finite.insert old.places (id_of last) (Some n)) len in

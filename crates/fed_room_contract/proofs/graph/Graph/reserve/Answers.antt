@@ -37,5 +37,5 @@ invariant_of-self-2 c =
       graph = subst IsGraph (sym c.reserve.ensures.items) c.self.invariant.graph;
       entered = entered_still old.places c.make_room.new.self c.as_str.result.now old.events.items c.reserve.new.self.items room c.reserve.ensures.items c.self.invariant.entered;
       spare = let h = c.in_ok-reserve.ensures.ok in omega arith;
-      named = subst (λ q. IsSome (finite.get c.make_room.new.self q)) (c.as_str.ensures ∙ sym c.in_ok-reserved.ensures) made;
+      named = subst (λ q. IsSome (finite.get c.make_room.new.self q)) (c.as_str.ensures.text ∙ sym c.in_ok-reserved.ensures) made;
     }
