@@ -1,0 +1,159 @@
+// The arguments of a call.
+
+use crate::answer::Stop;
+use crate::key_ring::KeyRing;
+use fed_json::{Items, Json, JsonRef, Members, canonical};
+use std::alloc::Global;
+
+/// The members of an object that a line gives: the call itself, or an object in one of its lists.
+#[derive(Clone, Copy)]
+pub(crate) struct Arguments<'a> {
+    pub(crate) alloc: Global,
+    object: JsonRef<'a>,
+}
+
+impl<'a> Arguments<'a> {
+    /// The members of the object that stands where `name` says.
+    pub(crate) fn of(
+        alloc: Global,
+        object: JsonRef<'a>,
+        name: &str,
+    ) -> Result<Arguments<'a>, Stop> {
+        if !object.is_object() {
+            return Err(wrong_kind(alloc, name));
+        }
+        Ok(Arguments { alloc, object })
+    }
+
+    /// The name of the one member.
+    pub(crate) fn only_name(self) -> Result<&'a str, Stop> {
+        match self.object.members().and_then(only_key) {
+            Some(name) => Ok(name),
+            None => Err(self.wrong_kind("operations")),
+        }
+    }
+
+    /// An argument that may be missing.
+    pub(crate) fn find(self, name: &str) -> Option<JsonRef<'a>> {
+        self.object.member(name)
+    }
+
+    /// An argument.
+    pub(crate) fn get(self, name: &str) -> Result<JsonRef<'a>, Stop> {
+        match self.find(name) {
+            Some(value) => Ok(value),
+            None => Err(Stop::wrong(format!(in self.alloc; "missing: {name}"))),
+        }
+    }
+
+    /// An argument that is any value, to keep.
+    pub(crate) fn value(self, name: &str) -> Result<Json, Stop> {
+        Ok(self.get(name)?.to_json()?)
+    }
+
+    pub(crate) fn text(self, name: &str) -> Result<&'a str, Stop> {
+        match self.get(name)?.text() {
+            Some(text) => Ok(text),
+            None => Err(self.wrong_kind(name)),
+        }
+    }
+
+    /// A text, to keep.
+    pub(crate) fn string(self, name: &str) -> Result<String, Stop> {
+        Ok(String::from_str(self.alloc, self.text(name)?)?)
+    }
+
+    pub(crate) fn items(self, name: &str) -> Result<Items<'a>, Stop> {
+        match self.get(name)?.items() {
+            Some(items) => Ok(items),
+            None => Err(self.wrong_kind(name)),
+        }
+    }
+
+    /// A list of texts, to keep.
+    pub(crate) fn strings(self, name: &str) -> Result<Vec<String>, Stop> {
+        let mut strings = Vec::new(self.alloc);
+        for item in self.items(name)? {
+            let Some(text) = item.text() else {
+                return Err(self.wrong_kind(name));
+            };
+            strings.push(String::from_str(self.alloc, text)?)?;
+        }
+        Ok(strings)
+    }
+
+    /// A whole number that is not negative.
+    pub(crate) fn whole(self, name: &str) -> Result<u64, Stop> {
+        match self.get(name)?.whole() {
+            Some(whole) if whole >= 0 => Ok(whole as u64),
+            _ => Err(self.wrong_kind(name)),
+        }
+    }
+
+    /// Whether an argument is true, which is false where it is missing.
+    pub(crate) fn is_set(self, name: &str) -> Result<bool, Stop> {
+        match self.find(name) {
+            Some(value) => value.boolean().ok_or(self.wrong_kind(name)),
+            None => Ok(false),
+        }
+    }
+
+    /// The bytes of `text`, or those that `hex` gives.
+    pub(crate) fn bytes(self) -> Result<Vec<u8>, Stop> {
+        if self.find("hex").is_some() {
+            return self.hex("hex");
+        }
+        Ok(Vec::from_slice(self.alloc, self.text("text")?.as_bytes())?)
+    }
+
+    /// The canonical text of `value`, or the bytes of `text` or `hex`.
+    pub(crate) fn body(self) -> Result<Vec<u8>, Stop> {
+        match self.find("value") {
+            Some(value) => Ok(canonical(self.alloc, &value.to_json()?)?),
+            None => self.bytes(),
+        }
+    }
+
+    /// Bytes in hex.
+    pub(crate) fn hex(self, name: &str) -> Result<Vec<u8>, Stop> {
+        match hex::decode(self.alloc, self.text(name)?) {
+            Ok(bytes) => Ok(bytes),
+            Err(hex::FromHexError::OutOfMemory) => Err(Stop::Memory),
+            Err(_) => Err(self.wrong_kind(name)),
+        }
+    }
+
+    /// The keys that `keys` names, of this server.
+    pub(crate) fn keys(self, own: &str) -> Result<KeyRing, Stop> {
+        match KeyRing::named(self.alloc, self.text("keys")?, own)? {
+            Some(keys) => Ok(keys),
+            None => Err(self.wrong_kind("keys")),
+        }
+    }
+
+    /// The keys that `keys` names, or stand-ins where it is missing, of this server.
+    pub(crate) fn keys_or_stand_in(self, own: &str) -> Result<KeyRing, Stop> {
+        if self.find("keys").is_some() {
+            return self.keys(own);
+        }
+        Ok(KeyRing::stand_in(self.alloc, own)?)
+    }
+
+    /// That an argument is of another kind than it should be.
+    pub(crate) fn wrong_kind(self, name: &str) -> Stop {
+        wrong_kind(self.alloc, name)
+    }
+}
+
+// The key of the one member.
+fn only_key(mut members: Members<'_>) -> Option<&str> {
+    let (name, _) = members.next()?;
+    if members.next().is_some() {
+        return None;
+    }
+    Some(name)
+}
+
+fn wrong_kind(alloc: Global, name: &str) -> Stop {
+    Stop::wrong(format!(in alloc; "wrong kind: {name}"))
+}

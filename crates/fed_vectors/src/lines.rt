@@ -1,0 +1,75 @@
+// From the line of a call to the line of its answer.
+
+use crate::answer::{Answer, Stop};
+use crate::arguments::Arguments;
+use crate::made::put;
+use crate::{events, graphs, inboxes, signatures, table_rooms, transactions, values};
+use fed_json::{Json, MAX_LEVELS, canonical, read_within};
+use std::alloc::Global;
+
+/// The line, without its end, that answers the call of a line.
+pub(crate) fn answer_line(alloc: Global, line: &[u8]) -> Result<Vec<u8>, Stop> {
+    let outcome = match answer(alloc, line) {
+        Ok(value) => holding(alloc, "ok", value),
+        Err(stop) => Err(stop),
+    };
+    match outcome {
+        Ok(text) => Ok(text),
+        Err(Stop::Error(text)) => holding(alloc, "error", Json::from(text)),
+        Err(Stop::Wrong(text)) => holding(alloc, "wrong", Json::from(text)),
+        Err(Stop::Memory) => Err(Stop::Memory),
+    }
+}
+
+// The canonical text of an object of one member.
+fn holding(alloc: Global, name: &str, value: Json) -> Result<Vec<u8>, Stop> {
+    let mut object = Json::empty_object(alloc);
+    put(alloc, &mut object, name, value)?;
+    Ok(canonical(alloc, &object)?)
+}
+
+fn answer(alloc: Global, line: &[u8]) -> Answer {
+    let object = match read_within(alloc, line, MAX_LEVELS) {
+        Ok(object) => object,
+        Err(fault) => return Err(Stop::wrong(format!(in alloc; "{fault}"))),
+    };
+    let call = Arguments::of(alloc, object.root(), "line")?;
+    answer_call(call.text("call")?, call)
+}
+
+fn answer_call(name: &str, call: Arguments<'_>) -> Answer {
+    match name {
+        "canonical" => values::canonical(call),
+        "redact" => values::redact(call),
+        "signed_text" => values::signed_text(call),
+        "event_id" => values::event_id(call),
+        "content_hash" => values::content_hash(call),
+        "texts" => values::texts(call),
+        "domain" => events::domain(call),
+        "user_id" => events::user_id(call),
+        "event" => events::event(call),
+        "fields" => events::fields(call),
+        "check_in" => events::check_in(call),
+        "seal" => events::seal(call),
+        _ => answer_later_call(name, call),
+    }
+}
+
+// The calls above events, and those on signatures.
+fn answer_later_call(name: &str, call: Arguments<'_>) -> Answer {
+    match name {
+        "sign" => signatures::sign(call),
+        "check" => signatures::check(call),
+        "signature" => signatures::signature(call),
+        "is_signed_by" => signatures::is_signed_by(call),
+        "transaction" => transactions::transaction(call),
+        "reply" => transactions::reply(call),
+        "inbox" => inboxes::inbox(call),
+        "run" => inboxes::run(call),
+        "allowed" => graphs::allowed(call),
+        "auth_state" => graphs::auth_state(call),
+        "selection" => graphs::selection(call),
+        "table_room" => table_rooms::table_room(call),
+        _ => Err(Stop::wrong(String::from_str(call.alloc, "unknown call"))),
+    }
+}

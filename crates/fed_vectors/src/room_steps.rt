@@ -1,0 +1,158 @@
+// Operations on a room, and what can be seen of it.
+
+use crate::answer::{Answer, Stop};
+use crate::arguments::Arguments;
+use crate::events::checked_in;
+use crate::graphs::wrong_event;
+use crate::key_ring::KeyRing;
+use crate::made::{count, ids, list, null, put, text};
+use crate::verdicts::{receipt_words, verdict_words};
+use fed_event::EventId;
+use fed_json::Json;
+use fed_room_contract::{Draft, Receipt, Refusal, RoomEngine, State, advance_all};
+use std::alloc::Global;
+
+// The last moment that an event can have.
+const LAST_MOMENT: u64 = (1 << 53) - 1;
+
+/// Makes the operation that an object names, and tells its answer.
+pub(crate) fn step<R: RoomEngine>(
+    name: &str,
+    operation: Arguments<'_>,
+    room: &mut R,
+    keys: &KeyRing,
+) -> Answer {
+    match name {
+        "receive" => receive(operation, room, keys),
+        "advance" => advance(operation.alloc, room),
+        "advance_all" => {
+            advance_all(operation.alloc, room)?;
+            null(operation.alloc)
+        }
+        "send" => send(operation, room, keys),
+        "prepare" => prepare(operation, room, keys),
+        _ => look(name, operation, room),
+    }
+}
+
+// The operations that change nothing.
+fn look<R: RoomEngine>(name: &str, operation: Arguments<'_>, room: &R) -> Answer {
+    let alloc = operation.alloc;
+    match name {
+        "state_before" => match room.state_before(alloc, operation.text(name)?)? {
+            Some(state) => entries(alloc, &state),
+            None => null(alloc),
+        },
+        "current" => entries(alloc, &room.current(alloc)?),
+        "extremities" => ids(alloc, &room.extremities(alloc)?),
+        _ => Err(operation.wrong_kind("operations")),
+    }
+}
+
+fn receive<R: RoomEngine>(operation: Arguments<'_>, room: &mut R, keys: &KeyRing) -> Answer {
+    let alloc = operation.alloc;
+    let event = match checked_in(alloc, keys, operation.value("receive")?) {
+        Ok(event) => event,
+        Err(stop) => return Err(wrong_event(alloc, "receive", stop)),
+    };
+    match room.receive(alloc, event) {
+        Ok(receipt) => Ok(Json::from(receipt_words(alloc, receipt)?)),
+        Err((event, _)) => {
+            drop(event);
+            Err(Stop::Memory)
+        }
+    }
+}
+
+fn advance<R: RoomEngine>(alloc: Global, room: &mut R) -> Answer {
+    match room.advance(alloc)? {
+        Some((id, receipt)) => told_of(alloc, &id, receipt),
+        None => null(alloc),
+    }
+}
+
+// The id of an event, and what became of it.
+fn told_of(alloc: Global, id: &EventId, receipt: Receipt) -> Answer {
+    let receipt = Json::from(receipt_words(alloc, receipt)?);
+    list(alloc, &[text(alloc, id.as_str())?, receipt])
+}
+
+fn send<R: RoomEngine>(operation: Arguments<'_>, room: &mut R, keys: &KeyRing) -> Answer {
+    let draft = draft(operation, "send")?;
+    told_of_draft(operation.alloc, keys.send(operation.alloc, room, draft))
+}
+
+fn prepare<R: RoomEngine>(operation: Arguments<'_>, room: &mut R, keys: &KeyRing) -> Answer {
+    let draft = draft(operation, "prepare")?;
+    told_of_draft(operation.alloc, keys.prepare(operation.alloc, room, draft))
+}
+
+// The id of the event that was made of a draft, or why none was.
+fn told_of_draft(alloc: Global, made: Result<EventId, Refusal>) -> Answer {
+    match made {
+        Ok(id) => text(alloc, id.as_str()),
+        Err(Refusal::Memory) => Err(Stop::Memory),
+        Err(refusal) => Ok(Json::from(format!(in alloc; "refused: {refusal}")?)),
+    }
+}
+
+fn draft(operation: Arguments<'_>, name: &str) -> Result<Draft, Stop> {
+    let parts = Arguments::of(operation.alloc, operation.get(name)?, name)?;
+    let state_key = match parts.find("state_key") {
+        Some(_) => Some(parts.string("state_key")?),
+        None => None,
+    };
+    let at_ms = parts.whole("at_ms")?;
+    if at_ms > LAST_MOMENT {
+        return Err(parts.wrong_kind("at_ms"));
+    }
+    Ok(Draft {
+        room: parts.string("room")?,
+        sender: parts.string("sender")?,
+        kind: parts.string("kind")?,
+        state_key,
+        content: parts.value("content")?,
+        at_ms,
+    })
+}
+
+fn entries(alloc: Global, state: &State) -> Answer {
+    let mut entries = Vec::new(alloc);
+    for entry in &state.entries(alloc)? {
+        let kind = text(alloc, entry.kind)?;
+        let state_key = text(alloc, entry.state_key)?;
+        let id = text(alloc, entry.id.as_str())?;
+        entries.push(list(alloc, &[kind, state_key, id])?)?;
+    }
+    list(alloc, &entries)
+}
+
+/// An answer, and what can be seen of the room.
+pub(crate) fn with_room<R: RoomEngine>(alloc: Global, answer: Json, room: &R) -> Answer {
+    let mut told = Json::empty_object(alloc);
+    put(alloc, &mut told, "answer", answer)?;
+    put(alloc, &mut told, "dropped", count(alloc, room.dropped())?)?;
+    put(alloc, &mut told, "stored", stored(alloc, room)?)?;
+    put(alloc, &mut told, "waiting", waiting(alloc, room)?)?;
+    Ok(told)
+}
+
+// The ids of the stored events, each with its verdict.
+fn stored<R: RoomEngine>(alloc: Global, room: &R) -> Answer {
+    let mut rows = Vec::new(alloc);
+    for stored in room.graph().events() {
+        let id = text(alloc, stored.event.event().id().as_str())?;
+        let verdict = Json::from(verdict_words(alloc, stored.verdict)?);
+        rows.push(list(alloc, &[id, verdict])?)?;
+    }
+    list(alloc, &rows)
+}
+
+// The ids of the events that wait.
+fn waiting<R: RoomEngine>(alloc: Global, room: &R) -> Answer {
+    let mut ids = Vec::new(alloc);
+    for event in room.waiting() {
+        ids.push(text(alloc, event.event().id().as_str())?)?;
+    }
+    list(alloc, &ids)
+}

@@ -1,0 +1,57 @@
+// Calls on rooms that go by a table.
+
+use crate::answer::{Answer, Stop};
+use crate::arguments::Arguments;
+use crate::made::list;
+use crate::room_steps::{step, with_room};
+use crate::verdicts::verdict_in;
+use fed_event::event_id;
+use fed_json::{Items, JsonRef};
+use fed_room::{Table, TableRoom};
+use fed_room_contract::State;
+
+/// What becomes of a room with each operation.
+pub(crate) fn table_room(call: Arguments<'_>) -> Answer {
+    let keys = call.keys(call.text("own")?)?;
+    let mut room = TableRoom::new(call.alloc, table(call)?);
+    let mut told = Vec::new(call.alloc);
+    for item in call.items("operations")? {
+        let operation = Arguments::of(call.alloc, item, "operations")?;
+        let answer = step(operation.only_name()?, operation, &mut room, &keys)?;
+        told.push(with_room(call.alloc, answer, &room)?)?;
+    }
+    list(call.alloc, &told)
+}
+
+fn table(call: Arguments<'_>) -> Result<Table, Stop> {
+    let mut table = Table::new(call.alloc, state(call, "current")?);
+    for item in call.items("rows")? {
+        let row = Arguments::of(call.alloc, item, "rows")?;
+        let Some(verdict) = verdict_in(row.text("verdict")?) else {
+            return Err(row.wrong_kind("verdict"));
+        };
+        table.insert(call.alloc, row.text("id")?, verdict, state(row, "before")?)?;
+    }
+    Ok(table)
+}
+
+// The state of a list of entries `[type, state key, value]`, at each of which the id of the value stands.
+fn state(call: Arguments<'_>, name: &str) -> Result<State, Stop> {
+    let mut state = State::new(call.alloc);
+    for item in call.items(name)? {
+        let Some((kind, state_key, value)) = item.items().and_then(entry_in) else {
+            return Err(call.wrong_kind(name));
+        };
+        let id = event_id(call.alloc, &value.to_json()?)?;
+        state.insert(call.alloc, kind, state_key, id)?;
+    }
+    Ok(state)
+}
+
+// The type, the state key and the value of an entry.
+fn entry_in<'a>(mut parts: Items<'a>) -> Option<(&'a str, &'a str, JsonRef<'a>)> {
+    if parts.len() != 3 {
+        return None;
+    }
+    Some((parts.next()?.text()?, parts.next()?.text()?, parts.next()?))
+}

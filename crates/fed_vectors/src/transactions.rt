@@ -1,0 +1,54 @@
+// Calls on transactions and the replies to them.
+
+use crate::answer::{Answer, Stop};
+use crate::arguments::Arguments;
+use crate::made::{list, number, put, text_of_bytes};
+use fed_json::{Json, JsonRef};
+use fed_txn::{TransactionIn, Verdicts, write_reply};
+
+pub(crate) fn transaction(call: Arguments<'_>) -> Answer {
+    let alloc = call.alloc;
+    let TransactionIn {
+        origin,
+        at_ms,
+        pdus,
+        edus,
+    } = match fed_txn::read(alloc, &call.bytes()?) {
+        Ok(transaction) => transaction,
+        Err(fault) => return Err(Stop::error(String::from_str(alloc, fault.text()))),
+    };
+    let mut parts = Json::empty_object(alloc);
+    put(alloc, &mut parts, "at_ms", number(alloc, at_ms)?)?;
+    put(alloc, &mut parts, "edus", list(alloc, &edus)?)?;
+    put(alloc, &mut parts, "origin", Json::from(origin))?;
+    put(alloc, &mut parts, "pdus", list(alloc, &pdus)?)?;
+    Ok(parts)
+}
+
+pub(crate) fn reply(call: Arguments<'_>) -> Answer {
+    let mut verdicts = Verdicts::new(call.alloc);
+    for item in call.items("verdicts")? {
+        let Some((id, error)) = verdict_in(item) else {
+            return Err(call.wrong_kind("verdicts"));
+        };
+        let error = match error {
+            Some(error) => Some(String::from_str(call.alloc, error)?),
+            None => None,
+        };
+        verdicts.insert(String::from_str(call.alloc, id)?, error)?;
+    }
+    text_of_bytes(call.alloc, &write_reply(call.alloc, &verdicts)?)
+}
+
+// The id, and perhaps the error, of `[id]` or `[id, error]`.
+fn verdict_in(item: JsonRef<'_>) -> Option<(&str, Option<&str>)> {
+    let mut parts = item.items()?;
+    if parts.len() > 2 {
+        return None;
+    }
+    let id = parts.next()?.text()?;
+    match parts.next() {
+        Some(error) => Some((id, Some(error.text()?))),
+        None => Some((id, None)),
+    }
+}
