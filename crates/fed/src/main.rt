@@ -15,6 +15,17 @@ const SERVERS: &str = "a.example";
 
 const ROOM: &str = "!r:a.example";
 
+const VERSION: &str = "0.1.0";
+
+// What standard input has to hold.
+const INPUT: &str = "\
+Standard input has a transaction a line: the origin, the transaction number and the body, with one space between.
+For each line the status and the body of the reply are printed. A repeat of a number gets the reply that it got.
+Every signature that decodes is trusted: this shows an inbox and gives no security. To try it, paste
+
+    a.example 7-1 {\"origin\":\"a.example\",\"origin_server_ts\":1,\"pdus\":[]}
+";
+
 // Why there is nothing more to answer.
 #[derive(Drop)]
 enum Stop {
@@ -49,19 +60,22 @@ impl From<RunFault> for Stop {
 fn main(rt: HostRuntime) -> Result<ExitCode> {
     match run(&rt) {
         Ok(()) => Ok(ExitCode::SUCCESS),
-        Err(Stop::CommandLine(error)) => {
-            error.print(&rt)?;
-            Ok(ExitCode::from(if error.use_stderr() { 2 } else { 0 }))
-        }
+        Err(Stop::CommandLine(error)) => match error.print(&rt) {
+            Ok(()) => Ok(ExitCode::from(if error.use_stderr() { 2 } else { 0 })),
+            Err(_) => end_by(&rt, RunFault::Io),
+        },
         Err(Stop::NotText) => {
             eprintln!(rt; "error: an argument is not UTF-8")?;
             Ok(ExitCode::from(2))
         }
-        Err(Stop::Fault(fault)) => {
-            eprintln!(rt; "fed: {fault}")?;
-            Ok(ExitCode::from(1))
-        }
+        Err(Stop::Fault(fault)) => end_by(&rt, fault),
     }
+}
+
+// Tells a fault.
+fn end_by(rt: &HostRuntime, fault: RunFault) -> Result<ExitCode> {
+    eprintln!(rt; "fed: {fault}")?;
+    Ok(ExitCode::from(1))
 }
 
 fn run(rt: &HostRuntime) -> Result<(), Stop> {
@@ -77,7 +91,9 @@ fn run(rt: &HostRuntime) -> Result<(), Stop> {
 fn words(rt: &HostRuntime) -> Result<Vec<String>, Stop> {
     match std::env::args(rt) {
         Ok(words) => Ok(words.collect(rt.alloc())?),
-        Err(error) if error.kind() == io::ErrorKind::OutOfMemory => Err(RunFault::Memory)?,
+        Err(error) if error.kind() == io::ErrorKind::OutOfMemory => {
+            Err(Stop::Fault(RunFault::Memory))
+        }
         Err(_) => Err(Stop::NotText),
     }
 }
@@ -100,32 +116,32 @@ fn command<'a>(alloc: Global) -> Result<Command<'a>, AllocError> {
         .help("The room that it knows");
     let inbox = Command::new(alloc, "inbox")
         .about("Answers lines of origin, transaction number and body")
+        .after_help(INPUT)
         .arg(name)?
         .arg(servers)?
         .arg(room)?;
     Command::new(alloc, "fed")
         .about("The federation inbox of a Matrix server; with no words, `inbox` with its defaults")
+        .after_help(INPUT)
+        .version(VERSION)
         .subcommand(inbox)
 }
 
 // The setup that the words ask for.
 fn setup_of(alloc: Global, matches: &ArgMatches<'_>) -> Result<InboxSetup, AllocError> {
-    let (name, servers, room) = match matches.subcommand() {
-        Some((_, inbox)) => (
-            inbox.get_str("name").unwrap_or(NAME),
-            inbox.get_str("servers").unwrap_or(SERVERS),
-            inbox.get_str("room").unwrap_or(ROOM),
-        ),
-        None => (NAME, SERVERS, ROOM),
+    let inbox = matches.subcommand().map(|(_, inbox)| inbox);
+    let word = |name: &str, default| match inbox {
+        Some(inbox) => inbox.get_str(name).unwrap_or(default),
+        None => default,
     };
+    let mut rooms = Vec::new(alloc);
+    rooms.push(String::from_str(alloc, word("room", ROOM))?)?;
     let mut listed = Vec::new(alloc);
-    for server in servers.split(',') {
+    for server in word("servers", SERVERS).split(',') {
         listed.push(String::from_str(alloc, server)?)?;
     }
-    let mut rooms = Vec::new(alloc);
-    rooms.push(String::from_str(alloc, room)?)?;
     Ok(InboxSetup {
-        own: String::from_str(alloc, name)?,
+        own: String::from_str(alloc, word("name", NAME))?,
         servers: listed,
         rooms,
     })

@@ -11,8 +11,6 @@ mod fault;
 mod limited;
 mod lines;
 mod setup;
-#[cfg(test)]
-mod tests;
 mod words;
 
 pub use fault::RunFault;

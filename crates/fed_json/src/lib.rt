@@ -17,8 +17,6 @@ mod laws;
 mod members;
 mod profile;
 mod reading;
-#[cfg(test)]
-mod tests;
 mod value;
 mod writing;
 

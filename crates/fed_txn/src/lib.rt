@@ -12,8 +12,6 @@ mod fault;
 mod laws;
 mod reading;
 mod reply;
-#[cfg(test)]
-mod tests;
 mod transaction;
 mod verdicts;
 

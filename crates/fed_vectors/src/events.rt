@@ -93,7 +93,7 @@ fn event_given(call: Arguments<'_>) -> Result<Pdu, Stop> {
     };
     match read {
         Ok(event) => Ok(event),
-        Err(fault) => Err(Stop::error(fault.verdict_text(call.alloc))),
+        Err(fault) => Err(Stop::error(format!(in call.alloc; "{fault}"))),
     }
 }
 
@@ -120,7 +120,7 @@ pub(crate) fn checked_in(alloc: Global, keys: &KeyRing, value: Json) -> Result<C
     };
     match keys.check_in(alloc, event) {
         Ok(checked) => Ok(checked),
-        Err(fault) => Err(Stop::error(fault.verdict_text(alloc))),
+        Err(fault) => Err(Stop::error(format!(in alloc; "{fault}"))),
     }
 }
 

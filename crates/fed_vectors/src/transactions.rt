@@ -15,7 +15,7 @@ pub(crate) fn transaction(call: Arguments<'_>) -> Answer {
         edus,
     } = match fed_txn::read(alloc, &call.bytes()?) {
         Ok(transaction) => transaction,
-        Err(fault) => return Err(Stop::error(String::from_str(alloc, fault.text()))),
+        Err(fault) => return Err(Stop::error(format!(in alloc; "{fault}"))),
     };
     let mut parts = Json::empty_object(alloc);
     put(alloc, &mut parts, "at_ms", number(alloc, at_ms)?)?;

@@ -1,6 +1,5 @@
-// Texts, states and graphs.
-use crate::started::sealed;
-use fed_event::{Checked, EventId, PduFault, event_id};
+// Texts, states, drafts and graphs.
+use fed_event::{Checked, EventId, PduFault, Trusting, event_id, is_sent_by, seal};
 use fed_json::{Json, read_within};
 use fed_room_contract::{Draft, Graph, Refusal, Rule, State, Verdict};
 use std::alloc::Global;
@@ -19,7 +18,12 @@ fn event(alloc: Global, depth: u8, prev_events: &str) -> Result<Checked, Fail> {
     let text = format!(in alloc;
         "{{\"auth_events\":[],\"content\":{{}},\"depth\":{depth},\"origin_server_ts\":1,\"prev_events\":[{prev_events}],\"room_id\":\"!r:a\",\"sender\":\"@u:a\",\"type\":\"m.x\"}}"
     )?;
-    sealed(alloc, text.as_str(), "a")
+    let parts = value(alloc, text.as_str())?;
+    let keys = Trusting::new(String::from_str(alloc, "a")?);
+    if !is_sent_by("a", &parts) {
+        return Err(Fail::new("another server"));
+    }
+    Ok(seal(alloc, parts, &keys)?)
 }
 
 // Stores an event that is new and ready, and tells whether it is.

@@ -1,10 +1,10 @@
-use crate::{InboxSetup, MAX_READS, RunFault, inbox_run};
+// Runs over readers and writers that give and take little, fail, or never end.
+use fed_app::{InboxSetup, MAX_READS, RunFault, inbox_run};
 use fed_json::NoMemory;
 use std::alloc::{AllocError, Global};
 use std::cell::Cell;
 use std::io;
 use std::io::{ErrorKind, Read, Write};
-use std::process::Abort;
 use std::test::Fail;
 
 const INPUT: &str = "\
@@ -31,8 +31,6 @@ const OUTPUT: &str = "\
 200 {\"pdus\":{}}
 ";
 
-const TAKEN: &str = "200 {\"pdus\":{}}\n";
-
 // The inbox of `b.example`, which takes from `a.example`.
 fn setup(alloc: Global) -> Result<InboxSetup, AllocError> {
     let mut servers = Vec::new(alloc);
@@ -44,143 +42,6 @@ fn setup(alloc: Global) -> Result<InboxSetup, AllocError> {
         servers,
         rooms,
     })
-}
-
-// Asserts how a run over these bytes ends, and what it writes after what is there before.
-fn expect(
-    rt: &impl Abort,
-    alloc: Global,
-    input: &[u8],
-    end: Result<(), RunFault>,
-    output: &str,
-) -> Result<(), Fail> {
-    let mut written = Vec::from_slice(alloc, b"# ")?;
-    let ended = inbox_run(alloc, input, &mut written, setup(alloc)?);
-    assert_eq!(rt; ended, end, "{input:?}");
-    let (before, after) = written.split_at(2);
-    assert_eq!(rt; before, b"# ".as_slice());
-    assert_eq!(rt; after, output.as_bytes(), "{input:?}");
-    Ok(())
-}
-
-#[test]
-fn answers_each_line(rt: HostRuntime) -> Result<(), Fail> {
-    expect(&rt, rt.alloc(), INPUT.as_bytes(), Ok(()), OUTPUT)?;
-    expect(&rt, rt.alloc(), b"", Ok(()), "")
-}
-
-#[test]
-fn the_end_of_the_input_ends_a_line(rt: HostRuntime) -> Result<(), Fail> {
-    let line = b"a.example 7-1 {\"origin\":\"a.example\",\"origin_server_ts\":1,\"pdus\":[]}";
-    expect(&rt, rt.alloc(), line, Ok(()), TAKEN)?;
-    expect(
-        &rt,
-        rt.alloc(),
-        b"x.example 1 {}\nx.example 1 {}",
-        Ok(()),
-        "403 {\"errcode\":\"M_FORBIDDEN\",\"error\":\"server not listed\"}\n\
-         403 {\"errcode\":\"M_FORBIDDEN\",\"error\":\"server not listed\"}\n",
-    )
-}
-
-#[test]
-fn lines_with_wrong_words(rt: HostRuntime) -> Result<(), Fail> {
-    let first = Err(RunFault::WrongWords { line: 1 });
-    for line in [
-        b"a.example 7-1".as_slice(),
-        b"a.example 7-1\n",
-        b"\n",
-        b" ",
-        b"  ",
-        b"a.example\n",
-        b" 7-1 {}\n",
-        b"a.example  {}\n",
-        b"a.example 7-1 \n",
-        b"a.example 7-1 ",
-        b"\xff 7-1 {}\n",
-        b"a.example \xc3( {}\n",
-        b"a.example\t7-1\t{}\n",
-    ] {
-        expect(&rt, rt.alloc(), line, first, "")?;
-    }
-    Ok(())
-}
-
-#[test]
-fn a_wrong_line_ends_the_run(rt: HostRuntime) -> Result<(), Fail> {
-    let refused = "403 {\"errcode\":\"M_FORBIDDEN\",\"error\":\"server not listed\"}\n\
-                   400 {\"errcode\":\"M_NOT_JSON\",\"error\":\"not json\"}\n";
-    expect(
-        &rt,
-        rt.alloc(),
-        b"x.example 1 {}\na.example 1 {\n\nx.example 1 {}\n",
-        Err(RunFault::WrongWords { line: 3 }),
-        refused,
-    )?;
-    // Two more spaces and a carriage return belong to the body.
-    expect(
-        &rt,
-        rt.alloc(),
-        b"x.example 1   {}\na.example 1 { \r\n",
-        Ok(()),
-        refused,
-    )
-}
-
-#[test]
-fn a_body_that_is_not_utf_8(rt: HostRuntime) -> Result<(), Fail> {
-    expect(
-        &rt,
-        rt.alloc(),
-        b"a.example 7-1 \"\xff\"\n",
-        Ok(()),
-        "400 {\"errcode\":\"M_NOT_JSON\",\"error\":\"not json\"}\n",
-    )
-}
-
-// Appends a line whose body has so many empty objects as PDUs and as EDUs.
-fn push_transaction(
-    line: &mut Vec<u8>,
-    txn: &str,
-    pdus: usize,
-    edus: usize,
-) -> Result<(), AllocError> {
-    line.extend_from_slice(b"a.example ")?;
-    line.extend_from_slice(txn.as_bytes())?;
-    line.extend_from_slice(b" {\"origin\":\"a.example\",\"origin_server_ts\":1,\"pdus\":[")?;
-    push_objects(line, pdus)?;
-    line.extend_from_slice(b"],\"edus\":[")?;
-    push_objects(line, edus)?;
-    line.extend_from_slice(b"]}\n")?;
-    Ok(())
-}
-
-fn push_objects(line: &mut Vec<u8>, count: usize) -> Result<(), AllocError> {
-    for number in 0..count {
-        line.extend_from_slice(if number == 0 { b"{}" } else { b",{}" })?;
-    }
-    Ok(())
-}
-
-#[test]
-fn as_many_elements_as_there_may_be(rt: HostRuntime) -> Result<(), Fail> {
-    let mut input = Vec::new(rt.alloc());
-    push_transaction(&mut input, "1", 51, 0)?;
-    push_transaction(&mut input, "1", 50, 0)?;
-    push_transaction(&mut input, "2", 0, 101)?;
-    push_transaction(&mut input, "2", 0, 100)?;
-    push_transaction(&mut input, "2", 51, 101)?;
-    expect(
-        &rt,
-        rt.alloc(),
-        &input,
-        Ok(()),
-        "400 {\"errcode\":\"M_BAD_JSON\",\"error\":\"too many pdus\"}\n\
-         200 {\"pdus\":{\"$RBNvo1WzZ4oRRq0W9-hknpT7T8If536DEMBg9hyq_4o\":{\"error\":\"missing field: auth_events\"}}}\n\
-         400 {\"errcode\":\"M_BAD_JSON\",\"error\":\"too many edus\"}\n\
-         200 {\"pdus\":{}}\n\
-         200 {\"pdus\":{}}\n",
-    )
 }
 
 // Gives its bytes in pieces of so many at most, fails at the call after so many, and asks to be called again every other time
