@@ -3,7 +3,7 @@
 use crate::answer::{Answer, Stop};
 use crate::arguments::Arguments;
 use crate::key_ring::KeyRing;
-use crate::made::{list, number, put, text, truth};
+use crate::made::{List, Object, copy, number, text, truth};
 use fed_event::{Checked, EventIds, Pdu};
 use fed_json::Json;
 use std::alloc::Global;
@@ -17,72 +17,41 @@ pub(crate) fn user_id(call: Arguments<'_>) -> Answer {
 }
 
 pub(crate) fn event(call: Arguments<'_>) -> Answer {
-    let alloc = call.alloc;
     let event = event_given(call)?;
-    let mut told = Json::empty_object(alloc);
-    put(
-        alloc,
-        &mut told,
-        "hash_fits",
-        truth(alloc, event.hash_fits())?,
-    )?;
-    put(alloc, &mut told, "id", text(alloc, event.id().as_str())?)?;
-    Ok(told)
+    Object::new(call.alloc)
+        .with("hash_fits", truth(call.alloc, event.hash_fits()))
+        .with("id", text(call.alloc, event.id().as_str()))
+        .into_answer()
 }
 
 pub(crate) fn fields(call: Arguments<'_>) -> Answer {
     let alloc = call.alloc;
     let event = event_given(call)?;
-    let mut fields = Json::empty_object(alloc);
-    put_values(alloc, &mut fields, &event)?;
-    put_texts(alloc, &mut fields, &event)?;
-    Ok(fields)
-}
-
-// The fields that are no texts.
-fn put_values(alloc: Global, fields: &mut Json, event: &Pdu) -> Result<(), Stop> {
-    put(
-        alloc,
-        fields,
-        "auth_events",
-        named(alloc, event.auth_events())?,
-    )?;
-    put(alloc, fields, "content", event.content().to_json()?)?;
-    put(alloc, fields, "depth", number(alloc, event.depth())?)?;
-    put(alloc, fields, "hashes", event.hashes().to_json()?)?;
-    put(
-        alloc,
-        fields,
-        "origin_server_ts",
-        number(alloc, event.origin_server_ts())?,
-    )?;
-    put(
-        alloc,
-        fields,
-        "prev_events",
-        named(alloc, event.prev_events())?,
-    )?;
-    put(alloc, fields, "signatures", event.signatures().to_json()?)
-}
-
-// The fields that are texts.
-fn put_texts(alloc: Global, fields: &mut Json, event: &Pdu) -> Result<(), Stop> {
-    put(alloc, fields, "room_id", text(alloc, event.room_id())?)?;
-    put(alloc, fields, "sender", text(alloc, event.sender())?)?;
-    put(alloc, fields, "type", text(alloc, event.kind())?)?;
-    if let Some(state_key) = event.state_key() {
-        put(alloc, fields, "state_key", text(alloc, state_key)?)?;
-    }
-    Ok(())
+    let fields = Object::new(alloc)
+        .with("auth_events", named(alloc, event.auth_events()))
+        .with("content", copy(event.content()))
+        .with("depth", number(alloc, event.depth()))
+        .with("hashes", copy(event.hashes()))
+        .with("origin_server_ts", number(alloc, event.origin_server_ts()))
+        .with("prev_events", named(alloc, event.prev_events()))
+        .with("room_id", text(alloc, event.room_id()))
+        .with("sender", text(alloc, event.sender()))
+        .with("signatures", copy(event.signatures()))
+        .with("type", text(alloc, event.kind()));
+    let fields = match event.state_key() {
+        Some(state_key) => fields.with("state_key", text(alloc, state_key)),
+        None => fields,
+    };
+    fields.into_answer()
 }
 
 // The ids that an event names.
 fn named(alloc: Global, ids: EventIds<'_>) -> Answer {
-    let mut texts = Vec::new(alloc);
+    let mut list = List::new(alloc);
     for id in ids {
-        texts.push(text(alloc, id)?)?;
+        list = list.with(text(alloc, id));
     }
-    list(alloc, &texts)
+    list.into_answer()
 }
 
 // The event of `value`, `text` or `hex`.
@@ -98,18 +67,12 @@ fn event_given(call: Arguments<'_>) -> Result<Pdu, Stop> {
 }
 
 pub(crate) fn check_in(call: Arguments<'_>) -> Answer {
-    let alloc = call.alloc;
     let keys = call.keys(call.text("own")?)?;
-    let checked = checked_in(alloc, &keys, call.value("value")?)?;
-    let mut told = Json::empty_object(alloc);
-    put(
-        alloc,
-        &mut told,
-        "authorised",
-        truth(alloc, checked.is_authorised())?,
-    )?;
-    put(alloc, &mut told, "event", checked.event().json().copy()?)?;
-    Ok(told)
+    let checked = checked_in(call.alloc, &keys, call.value("value")?)?;
+    Object::new(call.alloc)
+        .with("authorised", truth(call.alloc, checked.is_authorised()))
+        .with("event", copy(checked.event().json().root()))
+        .into_answer()
 }
 
 /// The event that a value is, after the checks on receipt. The error is the verdict on it.

@@ -4,7 +4,7 @@ use crate::answer::{Answer, Stop};
 use crate::arguments::Arguments;
 use crate::events::checked_in;
 use crate::key_ring::KeyRing;
-use crate::made::{count, list, null};
+use crate::made::{List, count, null};
 use crate::verdicts::verdict_in;
 use fed_event::{Checked, EventId, Pdu};
 use fed_json::JsonRef;
@@ -28,11 +28,11 @@ pub(crate) fn auth_state(call: Arguments<'_>) -> Answer {
     match fed_auth::auth_state(call.alloc, &graph, event.event())? {
         Ok(state) => {
             let entries = state.entries(call.alloc)?;
-            let mut places = Vec::new(call.alloc);
+            let mut places = List::new(call.alloc);
             for entry in &entries {
-                places.push(place_of(call.alloc, &graph, entry.id)?)?;
+                places = places.with(place_of(call.alloc, &graph, entry.id));
             }
-            list(call.alloc, &places)
+            places.into_answer()
         }
         Err(rule) => Err(rejected(call.alloc, rule)),
     }
@@ -43,11 +43,11 @@ pub(crate) fn selection(call: Arguments<'_>) -> Answer {
     let graph = graph(call, &keys)?;
     let state = state(call, &graph)?;
     let event = event(call, &keys)?;
-    let mut places = Vec::new(call.alloc);
+    let mut places = List::new(call.alloc);
     for id in &fed_auth::selection(call.alloc, event.event(), &state)? {
-        places.push(place_of(call.alloc, &graph, id)?)?;
+        places = places.with(place_of(call.alloc, &graph, id));
     }
-    list(call.alloc, &places)
+    places.into_answer()
 }
 
 // The place of an event, or null where it is not stored.

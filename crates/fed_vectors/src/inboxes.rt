@@ -3,7 +3,7 @@
 use crate::answer::{Answer, Stop};
 use crate::arguments::Arguments;
 use crate::key_ring::{KeyRing, Request};
-use crate::made::{count, list, put, text_of_bytes, texts_of_bytes};
+use crate::made::{List, Object, copy, number, text_of_bytes, texts_of_bytes};
 use fed_app::{InboxSetup, inbox_run};
 use fed_event::Checked;
 use fed_inbox::{Inbox, Reply};
@@ -12,94 +12,72 @@ use std::alloc::Global;
 
 /// What an inbox answers to the requests, and what it took.
 pub(crate) fn inbox(call: Arguments<'_>) -> Answer {
-    let alloc = call.alloc;
-    let keys = call.keys(call.text("own")?)?;
+    let own = call.string("own")?;
     let servers = call.strings("servers")?;
-    let mut inbox = Inbox::new(alloc, call.string("own")?, servers, call.strings("rooms")?)?;
-    let mut told = Json::empty_object(alloc);
-    put(
-        alloc,
-        &mut told,
-        "answers",
-        answers(call, &mut inbox, &keys)?,
-    )?;
-    put_taken(call, &mut told, &inbox)?;
-    Ok(told)
+    let mut inbox = Inbox::new(call.alloc, own, servers, call.strings("rooms")?)?;
+    let answers = answers(call, &mut inbox)?;
+    with_taken(call, answers, &inbox)
 }
 
-fn put_taken(call: Arguments<'_>, told: &mut Json, inbox: &Inbox) -> Result<(), Stop> {
-    let alloc = call.alloc;
-    let mut taken = Json::empty_object(alloc);
-    let mut taken_edus = Json::empty_object(alloc);
+// The answers, and what was taken from each server.
+fn with_taken(call: Arguments<'_>, answers: Json, inbox: &Inbox) -> Answer {
+    let mut pdus = Object::new(call.alloc);
+    let mut edus = Object::new(call.alloc);
     for server in &call.strings("servers")? {
-        put(
-            alloc,
-            &mut taken,
-            server,
-            texts_of_bytes(alloc, inbox.taken(server))?,
-        )?;
-        put(
-            alloc,
-            &mut taken_edus,
-            server,
-            texts_of_bytes(alloc, inbox.taken_edus(server))?,
-        )?;
+        pdus = pdus.with(server, texts_of_bytes(call.alloc, inbox.taken(server)));
+        edus = edus.with(server, texts_of_bytes(call.alloc, inbox.taken_edus(server)));
     }
-    put(alloc, told, "taken", taken)?;
-    put(alloc, told, "taken_edus", taken_edus)
+    Object::new(call.alloc)
+        .with("answers", Ok(answers))
+        .with("taken", pdus.into_answer())
+        .with("taken_edus", edus.into_answer())
+        .into_answer()
 }
 
-fn answers(call: Arguments<'_>, inbox: &mut Inbox, keys: &KeyRing) -> Answer {
-    let mut answers = Vec::new(call.alloc);
+fn answers(call: Arguments<'_>, inbox: &mut Inbox) -> Answer {
+    let keys = call.keys(call.text("own")?)?;
+    let mut answers = List::new(call.alloc);
     for item in call.items("requests")? {
         let request = Arguments::of(call.alloc, item, "requests")?;
-        answers.push(answer(request, inbox, keys)?)?;
+        answers = answers.with(answer(request, inbox, &keys));
     }
-    list(call.alloc, &answers)
+    answers.into_answer()
 }
 
 // The answer to a request, and the events that it hands out.
 fn answer(request: Arguments<'_>, inbox: &mut Inbox, keys: &KeyRing) -> Answer {
-    let alloc = request.alloc;
-    let body = request.body()?;
     let leaves = request.is_set("leave")?;
-    let request = Request {
+    let told = told_of(request.alloc, &reply(request, inbox, keys)?);
+    if leaves {
+        return told.into_answer();
+    }
+    let fresh = values(request.alloc, &inbox.fresh());
+    told.with("fresh", fresh).into_answer()
+}
+
+fn reply(request: Arguments<'_>, inbox: &mut Inbox, keys: &KeyRing) -> Result<Reply, Stop> {
+    let body = request.body()?;
+    let sent = Request {
         origin: request.text("origin")?,
         txn: request.text("txn")?,
         body: &body,
     };
-    let reply = keys.answer_body(alloc, inbox, request);
-    let mut told = told_of(alloc, &reply)?;
-    if !leaves {
-        put(alloc, &mut told, "fresh", values(alloc, &inbox.fresh())?)?;
-    }
-    Ok(told)
+    Ok(keys.answer_body(request.alloc, inbox, sent))
 }
 
 // The status and the body.
-fn told_of(alloc: Global, reply: &Reply) -> Answer {
-    let mut told = Json::empty_object(alloc);
-    put(
-        alloc,
-        &mut told,
-        "body",
-        text_of_bytes(alloc, reply.body())?,
-    )?;
-    put(
-        alloc,
-        &mut told,
-        "status",
-        count(alloc, reply.status() as u64)?,
-    )?;
-    Ok(told)
+fn told_of(alloc: Global, reply: &Reply) -> Object {
+    Object::new(alloc)
+        .with("body", text_of_bytes(alloc, reply.body()))
+        .with("status", number(alloc, i64::from(reply.status())))
 }
 
 fn values(alloc: Global, events: &[Checked]) -> Answer {
-    let mut values = Vec::new(alloc);
+    let mut list = List::new(alloc);
     for event in events {
-        values.push(event.event().json().copy()?)?;
+        list = list.with(copy(event.event().json().root()));
     }
-    list(alloc, &values)
+    list.into_answer()
 }
 
 pub(crate) fn run(call: Arguments<'_>) -> Answer {
@@ -115,8 +93,8 @@ pub(crate) fn run(call: Arguments<'_>) -> Answer {
         Ok(()) => String::from_str(alloc, "ok")?,
         Err(fault) => format!(in alloc; "{fault}")?,
     };
-    let mut told = Json::empty_object(alloc);
-    put(alloc, &mut told, "end", Json::from(end))?;
-    put(alloc, &mut told, "output", text_of_bytes(alloc, &output)?)?;
-    Ok(told)
+    Object::new(alloc)
+        .with("end", Ok(Json::from(end)))
+        .with("output", text_of_bytes(alloc, &output))
+        .into_answer()
 }

@@ -2,7 +2,7 @@
 
 use crate::answer::{Answer, Stop};
 use crate::arguments::Arguments;
-use crate::made::put;
+use crate::made::Object;
 use crate::{events, graphs, inboxes, signatures, table_rooms, transactions, values};
 use fed_json::{Json, MAX_LEVELS, canonical, read_within};
 use std::alloc::Global;
@@ -23,8 +23,7 @@ pub(crate) fn answer_line(alloc: Global, line: &[u8]) -> Result<Vec<u8>, Stop> {
 
 // The canonical text of an object of one member.
 fn holding(alloc: Global, name: &str, value: Json) -> Result<Vec<u8>, Stop> {
-    let mut object = Json::empty_object(alloc);
-    put(alloc, &mut object, name, value)?;
+    let object = Object::new(alloc).with(name, Ok(value)).into_answer()?;
     Ok(canonical(alloc, &object)?)
 }
 

@@ -2,7 +2,7 @@
 
 use crate::answer::{Answer, Stop};
 use fed_event::EventId;
-use fed_json::{Json, MAX_LEVELS, read_within};
+use fed_json::{Json, JsonRef, MAX_LEVELS, read_within};
 use std::alloc::Global;
 
 /// The value of a JSON text that nests at most 127 levels and has whole numbers only.
@@ -33,6 +33,11 @@ pub(crate) fn count(alloc: Global, count: u64) -> Answer {
     value_of(alloc, digits.as_bytes())
 }
 
+/// An equal value.
+pub(crate) fn copy(value: JsonRef<'_>) -> Answer {
+    Ok(value.to_json()?)
+}
+
 pub(crate) fn text(alloc: Global, text: &str) -> Answer {
     Ok(Json::from(String::from_str(alloc, text)?))
 }
@@ -44,20 +49,20 @@ pub(crate) fn text_of_bytes(alloc: Global, bytes: &[u8]) -> Answer {
 
 /// The list of the texts that these bytes are.
 pub(crate) fn texts_of_bytes(alloc: Global, texts: &[Vec<u8>]) -> Answer {
-    let mut values = Vec::new(alloc);
+    let mut list = List::new(alloc);
     for bytes in texts {
-        values.push(text_of_bytes(alloc, bytes)?)?;
+        list = list.with(text_of_bytes(alloc, bytes));
     }
-    list(alloc, &values)
+    list.into_answer()
 }
 
 /// The list of ids.
 pub(crate) fn ids(alloc: Global, ids: &[EventId]) -> Answer {
-    let mut texts = Vec::new(alloc);
+    let mut list = List::new(alloc);
     for id in ids {
-        texts.push(text(alloc, id.as_str())?)?;
+        list = list.with(text(alloc, id.as_str()));
     }
-    list(alloc, &texts)
+    list.into_answer()
 }
 
 /// Bytes in hex.
@@ -66,26 +71,94 @@ pub(crate) fn hex_of(alloc: Global, bytes: &[u8]) -> Answer {
 }
 
 /// The list of these values.
-pub(crate) fn list(alloc: Global, values: &[Json]) -> Answer {
-    let mut text = Vec::new(alloc);
-    text.push(b'[')?;
+pub(crate) fn list_of(alloc: Global, values: &[Json]) -> Answer {
+    let mut list = List::new(alloc);
     for value in values {
-        if text.len() > 1 {
-            text.push(b',')?;
-        }
-        value.root().append_to(alloc, &mut text)?;
+        list = list.with(Ok(value.copy()?));
     }
-    text.push(b']')?;
-    value_of(alloc, &text)
+    list.into_answer()
 }
 
-/// Puts a member into an object.
-pub(crate) fn put(alloc: Global, object: &mut Json, name: &str, member: Json) -> Result<(), Stop> {
+/// A list that is put together, item by item: its text up to the last item, or why there is none.
+#[derive(Drop)]
+pub(crate) struct List {
+    alloc: Global,
+    text: Result<Vec<u8>, Stop>,
+}
+
+impl List {
+    pub(crate) fn new(alloc: Global) -> List {
+        List {
+            alloc,
+            text: Ok(Vec::new(alloc)),
+        }
+    }
+
+    /// The list with this item too.
+    pub(crate) fn with(self, item: Answer) -> List {
+        let List { alloc, text } = self;
+        List {
+            alloc,
+            text: with_item(alloc, text, item),
+        }
+    }
+
+    pub(crate) fn into_answer(self) -> Answer {
+        let List { alloc, text } = self;
+        let mut text = text?;
+        if text.is_empty() {
+            return Ok(Json::empty_array(alloc));
+        }
+        text.push(b']')?;
+        value_of(alloc, &text)
+    }
+}
+
+fn with_item(alloc: Global, text: Result<Vec<u8>, Stop>, item: Answer) -> Result<Vec<u8>, Stop> {
+    let mut text = text?;
+    text.push(if text.is_empty() { b'[' } else { b',' })?;
+    item?.root().append_to(alloc, &mut text)?;
+    Ok(text)
+}
+
+/// An object that is put together, member by member, or why there is none.
+#[derive(Drop)]
+pub(crate) struct Object {
+    alloc: Global,
+    value: Answer,
+}
+
+impl Object {
+    pub(crate) fn new(alloc: Global) -> Object {
+        Object {
+            alloc,
+            value: Ok(Json::empty_object(alloc)),
+        }
+    }
+
+    /// The object with this member too.
+    pub(crate) fn with(self, name: &str, member: Answer) -> Object {
+        let Object { alloc, value } = self;
+        Object {
+            alloc,
+            value: with_member(alloc, value, name, member),
+        }
+    }
+
+    pub(crate) fn into_answer(self) -> Answer {
+        let Object { value, .. } = self;
+        value
+    }
+}
+
+fn with_member(alloc: Global, object: Answer, name: &str, member: Answer) -> Answer {
+    let mut object = object?;
+    let member = member?;
     if member.depth() >= MAX_LEVELS {
         return Err(too_deep(alloc));
     }
     object.put(String::from_str(alloc, name)?, member)?;
-    Ok(())
+    Ok(object)
 }
 
 fn too_deep(alloc: Global) -> Stop {

@@ -5,7 +5,7 @@ use crate::arguments::Arguments;
 use crate::events::checked_in;
 use crate::graphs::wrong_event;
 use crate::key_ring::KeyRing;
-use crate::made::{count, ids, list, null, put, text};
+use crate::made::{List, Object, count, ids, null, text};
 use crate::verdicts::{receipt_words, verdict_words};
 use fed_event::EventId;
 use fed_json::Json;
@@ -73,8 +73,11 @@ fn advance<R: RoomEngine>(alloc: Global, room: &mut R) -> Answer {
 
 // The id of an event, and what became of it.
 fn told_of(alloc: Global, id: &EventId, receipt: Receipt) -> Answer {
-    let receipt = Json::from(receipt_words(alloc, receipt)?);
-    list(alloc, &[text(alloc, id.as_str())?, receipt])
+    let receipt = receipt_words(alloc, receipt)?;
+    List::new(alloc)
+        .with(text(alloc, id.as_str()))
+        .with(Ok(Json::from(receipt)))
+        .into_answer()
 }
 
 fn send<R: RoomEngine>(operation: Arguments<'_>, room: &mut R, keys: &KeyRing) -> Answer {
@@ -117,42 +120,45 @@ fn draft(operation: Arguments<'_>, name: &str) -> Result<Draft, Stop> {
 }
 
 fn entries(alloc: Global, state: &State) -> Answer {
-    let mut entries = Vec::new(alloc);
+    let mut list = List::new(alloc);
     for entry in &state.entries(alloc)? {
-        let kind = text(alloc, entry.kind)?;
-        let state_key = text(alloc, entry.state_key)?;
-        let id = text(alloc, entry.id.as_str())?;
-        entries.push(list(alloc, &[kind, state_key, id])?)?;
+        let entry = List::new(alloc)
+            .with(text(alloc, entry.kind))
+            .with(text(alloc, entry.state_key))
+            .with(text(alloc, entry.id.as_str()));
+        list = list.with(entry.into_answer());
     }
-    list(alloc, &entries)
+    list.into_answer()
 }
 
 /// An answer, and what can be seen of the room.
-pub(crate) fn with_room<R: RoomEngine>(alloc: Global, answer: Json, room: &R) -> Answer {
-    let mut told = Json::empty_object(alloc);
-    put(alloc, &mut told, "answer", answer)?;
-    put(alloc, &mut told, "dropped", count(alloc, room.dropped())?)?;
-    put(alloc, &mut told, "stored", stored(alloc, room)?)?;
-    put(alloc, &mut told, "waiting", waiting(alloc, room)?)?;
-    Ok(told)
+pub(crate) fn with_room<R: RoomEngine>(alloc: Global, answer: Answer, room: &R) -> Answer {
+    Object::new(alloc)
+        .with("answer", answer)
+        .with("dropped", count(alloc, room.dropped()))
+        .with("stored", stored(alloc, room))
+        .with("waiting", waiting(alloc, room))
+        .into_answer()
 }
 
 // The ids of the stored events, each with its verdict.
 fn stored<R: RoomEngine>(alloc: Global, room: &R) -> Answer {
-    let mut rows = Vec::new(alloc);
+    let mut list = List::new(alloc);
     for stored in room.graph().events() {
-        let id = text(alloc, stored.event.event().id().as_str())?;
-        let verdict = Json::from(verdict_words(alloc, stored.verdict)?);
-        rows.push(list(alloc, &[id, verdict])?)?;
+        let verdict = verdict_words(alloc, stored.verdict)?;
+        let row = List::new(alloc)
+            .with(text(alloc, stored.event.event().id().as_str()))
+            .with(Ok(Json::from(verdict)));
+        list = list.with(row.into_answer());
     }
-    list(alloc, &rows)
+    list.into_answer()
 }
 
 // The ids of the events that wait.
 fn waiting<R: RoomEngine>(alloc: Global, room: &R) -> Answer {
-    let mut ids = Vec::new(alloc);
+    let mut list = List::new(alloc);
     for event in room.waiting() {
-        ids.push(text(alloc, event.event().id().as_str())?)?;
+        list = list.with(text(alloc, event.event().id().as_str()));
     }
-    list(alloc, &ids)
+    list.into_answer()
 }

@@ -2,7 +2,7 @@
 
 use crate::answer::{Answer, Stop};
 use crate::arguments::Arguments;
-use crate::made::list;
+use crate::made::List;
 use crate::room_steps::{step, with_room};
 use crate::verdicts::verdict_in;
 use fed_event::event_id;
@@ -14,13 +14,13 @@ use fed_room_contract::State;
 pub(crate) fn table_room(call: Arguments<'_>) -> Answer {
     let keys = call.keys(call.text("own")?)?;
     let mut room = TableRoom::new(call.alloc, table(call)?);
-    let mut told = Vec::new(call.alloc);
+    let mut told = List::new(call.alloc);
     for item in call.items("operations")? {
         let operation = Arguments::of(call.alloc, item, "operations")?;
-        let answer = step(operation.only_name()?, operation, &mut room, &keys)?;
-        told.push(with_room(call.alloc, answer, &room)?)?;
+        let answer = step(operation.only_name()?, operation, &mut room, &keys);
+        told = told.with(with_room(call.alloc, answer, &room));
     }
-    list(call.alloc, &told)
+    told.into_answer()
 }
 
 fn table(call: Arguments<'_>) -> Result<Table, Stop> {

@@ -2,7 +2,7 @@
 
 use crate::answer::{Answer, Stop};
 use crate::arguments::Arguments;
-use crate::made::{list, number, put, text_of_bytes};
+use crate::made::{Object, list_of, number, text_of_bytes};
 use fed_json::{Json, JsonRef};
 use fed_txn::{TransactionIn, Verdicts, write_reply};
 
@@ -17,12 +17,12 @@ pub(crate) fn transaction(call: Arguments<'_>) -> Answer {
         Ok(transaction) => transaction,
         Err(fault) => return Err(Stop::error(format!(in alloc; "{fault}"))),
     };
-    let mut parts = Json::empty_object(alloc);
-    put(alloc, &mut parts, "at_ms", number(alloc, at_ms)?)?;
-    put(alloc, &mut parts, "edus", list(alloc, &edus)?)?;
-    put(alloc, &mut parts, "origin", Json::from(origin))?;
-    put(alloc, &mut parts, "pdus", list(alloc, &pdus)?)?;
-    Ok(parts)
+    Object::new(alloc)
+        .with("at_ms", number(alloc, at_ms))
+        .with("edus", list_of(alloc, &edus))
+        .with("origin", Ok(Json::from(origin)))
+        .with("pdus", list_of(alloc, &pdus))
+        .into_answer()
 }
 
 pub(crate) fn reply(call: Arguments<'_>) -> Answer {

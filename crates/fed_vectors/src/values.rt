@@ -2,7 +2,7 @@
 
 use crate::answer::{Answer, Stop};
 use crate::arguments::Arguments;
-use crate::made::{put, text, text_of_bytes};
+use crate::made::{Object, text, text_of_bytes};
 use fed_event::Texts;
 use fed_json::{Json, MAX_LEVELS, read_within};
 
@@ -40,26 +40,10 @@ pub(crate) fn content_hash(call: Arguments<'_>) -> Answer {
 }
 
 pub(crate) fn texts(call: Arguments<'_>) -> Answer {
-    let alloc = call.alloc;
-    let texts = Texts::of(alloc, &call.value("value")?)?;
-    let mut parts = Json::empty_object(alloc);
-    put(
-        alloc,
-        &mut parts,
-        "covered",
-        text_of_bytes(alloc, texts.covered())?,
-    )?;
-    put(
-        alloc,
-        &mut parts,
-        "signed",
-        text_of_bytes(alloc, texts.signed())?,
-    )?;
-    put(
-        alloc,
-        &mut parts,
-        "whole",
-        text_of_bytes(alloc, texts.whole())?,
-    )?;
-    Ok(parts)
+    let texts = Texts::of(call.alloc, &call.value("value")?)?;
+    Object::new(call.alloc)
+        .with("covered", text_of_bytes(call.alloc, texts.covered()))
+        .with("signed", text_of_bytes(call.alloc, texts.signed()))
+        .with("whole", text_of_bytes(call.alloc, texts.whole()))
+        .into_answer()
 }
