@@ -1,5 +1,5 @@
 -- Auth states, by look-ups among the auth events.
-use Rattle.std.proofs.Common.{◌≡◌, ℕ, List, [], ◌∷◌, Bool, true, false, true≢false, ◌&&◌, ◌||◌, cond, Option, Some, None, option_map, is_some, Result, Ok, Err, bytes_eq, refl, sym, ◌∙◌, ap}
+use Rattle.std.proofs.Common.{◌≡◌, ℕ, List, [], ◌∷◌, Bool, true, false, true≢false, ◌&&◌, cond, Option, Some, None, option_map, is_some, Result, Ok, Err, bytes_eq, refl, sym, ◌∙◌, ap}
 use Rattle.std.proofs.lemmas.Bool.{and_parts, or_parts}
 use Rattle.std.proofs.lemmas.Slice.Eq.{bytes_eq-Decides}
 use Rattle.std.specs.Bool.{⊤}
@@ -49,8 +49,8 @@ alike : (kind key : List ℕ) (one other : Stored) → stands_at kind key one �
 unfolding stands_at are_alike
 alike kind key one other h =
     let parts = and_parts (bytes_eq kind (kind_in one)) (option_eq bytes_eq (Some key) (state_key_in one)) h in
-    ap (λ k. bytes_eq k (kind_in other) && option_eq bytes_eq (state_key_in one) (state_key_in other)) (sym (same_bytes kind (kind_in one) parts.0))
-    ∙ ap (λ o. bytes_eq kind (kind_in other) && option_eq bytes_eq o (state_key_in other)) (same_key (state_key_in one) key parts.1)
+    ap (λ k. is_some (state_key_in one) && bytes_eq k (kind_in other) && option_eq bytes_eq (state_key_in one) (state_key_in other)) (sym (same_bytes kind (kind_in one) parts.0))
+    ∙ ap (λ o. is_some o && bytes_eq kind (kind_in other) && option_eq bytes_eq o (state_key_in other)) (same_key (state_key_in one) key parts.1)
 
 is_none : {X : Type 0} (o : Option X) → is_some o ≡ false → o ≡ None
 is_none None h = refl

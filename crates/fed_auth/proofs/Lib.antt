@@ -1,2 +1,2 @@
-pub mod Selections
 pub mod AuthStates
+pub mod Selections

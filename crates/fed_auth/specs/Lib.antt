@@ -11,4 +11,7 @@ pub mod Room
 pub mod RoomParts
 pub mod Allowed
 pub mod Selection
+pub mod SelectionKey
 pub mod AuthState
+pub mod AuthEvents
+pub mod AuthFacts

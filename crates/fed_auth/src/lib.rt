@@ -1,7 +1,7 @@
 //! Which events a room allows: the authorization rules of room version 10.
 //!
 //! - `rules`: whether a room allows an event
-//! - `selected`: the auth events that an event has
+//! - `selector`: the auth events that an event has
 //! - `auth_events`: what rule 2 makes of the auth events of an event
 //! - `laws`: what holds of all selections and auth states
 //! - `levels`: power levels, as the state of a room gives them
@@ -27,7 +27,7 @@ mod membership;
 mod power_rules;
 mod room;
 mod rules;
-mod selected;
+mod selector;
 
 pub use auth_events::auth_state;
 pub use join_rule::JoinRule;
@@ -35,4 +35,4 @@ pub use laws::{what_an_auth_state_has, what_is_selected};
 pub use levels::Levels;
 pub use membership::{Membership, authorising_user};
 pub use rules::allowed;
-pub use selected::selection;
+pub use selector::{Selector, selection};
