@@ -7,8 +7,8 @@ pub mod MemberRules
 pub mod CreateRules
 pub mod PowerRules
 pub mod EventRules
-pub mod Room
-pub mod RoomParts
+pub mod StateView
+pub mod StateViewParts
 pub mod Allowed
 pub mod Selection
 pub mod SelectionKey
