@@ -14,7 +14,7 @@ use Rattle.fed_room_contract.specs.declared.graph.Stored.{Stored}
 use Rattle.fed_room_contract.specs.State.{StateMap, with_entry}
 use Rattle.fed_room_contract.specs.Graph.{id_of, stored_at}
 use Rattle.fed_auth.specs.Table.{Row, rule, reject, decide}
-use Rattle.fed_auth.specs.Selection.{fields_of, is_selected}
+use Rattle.fed_auth.specs.Selection.{selector_of, is_selected}
 
 -- the stored events of these ids
 abbrev pub stored_of : List Stored → List (List ℕ) → List Stored
@@ -41,7 +41,7 @@ stands_at kind key auth = bytes_eq kind (kind_in auth) && option_eq bytes_eq (So
 
 -- an event without a state key is never selected
 unfoldable pub is_outside_selection : Data → Stored → Bool
-is_outside_selection event auth = not (holds (is_selected (fields_of event) (kind_in auth)) (state_key_in auth))
+is_outside_selection event auth = not (holds (is_selected (selector_of event) (kind_in auth)) (state_key_in auth))
 
 abbrev pub is_rejection : Verdict → Bool
 is_rejection Accepted = false

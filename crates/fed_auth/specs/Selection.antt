@@ -13,24 +13,24 @@ use Rattle.fed_auth.specs.declared.membership.Membership.{Membership}
 use Rattle.fed_auth.specs.declared.membership.Membership.TheVariants.{Join, Invite, Knock}
 use Rattle.fed_auth.specs.Membership.{membership_in}
 
--- the fields of an event that its auth events are selected by
-pub record SelectionFields : Type 0 where
+-- the fields of an event that its auth events are selected by, and those of an event
+pub record SelectorFields : Type 0 where
   pub kind : List ℕ
   pub sender : List ℕ
   pub state_key : Option (List ℕ)
   pub content : Data
 
-abbrev pub fields_code : Coded SelectionFields
+abbrev pub fields_code : Coded SelectorFields
 fields_code =
     code_by ((List ℕ × List ℕ) × (Option (List ℕ) × Data)) (coded× (coded× (coded_list coded_ℕ) (coded_list coded_ℕ)) (coded× (coded_option (coded_list coded_ℕ)) coded_data))
     (λ f. ((f.kind, f.sender), (f.state_key, f.content))) (λ p. record { kind = p.0.0; sender = p.0.1; state_key = p.1.0; content = p.1.1 }) (λ _. refl)
 
-abbrev pub fields_of : Data → SelectionFields
-fields_of event = record { kind = kind_of event; sender = sender_of event; state_key = state_key_of event; content = content_of event }
+abbrev pub selector_of : Data → SelectorFields
+selector_of event = record { kind = kind_of event; sender = sender_of event; state_key = state_key_of event; content = content_of event }
 
 -- ---- the keys
 
-abbrev pub is_of_member : SelectionFields → Bool
+abbrev pub is_of_member : SelectorFields → Bool
 is_of_member fields = bytes_eq fields.kind (codes "m.room.member")
 
 -- the memberships that the join rules decide on
@@ -41,13 +41,13 @@ is_by_join_rules Knock = true
 is_by_join_rules membership = false
 
 -- of a member event: its target, whether the join rules decide on it, and the user that authorises it
-unfoldable pub target_of : SelectionFields → Option (List ℕ)
+unfoldable pub target_of : SelectorFields → Option (List ℕ)
 target_of fields = if is_of_member fields then fields.state_key else None
 
-unfoldable pub needs_join_rules : SelectionFields → Bool
+unfoldable pub needs_join_rules : SelectorFields → Bool
 needs_join_rules fields = is_of_member fields && is_by_join_rules (membership_in fields.content)
 
-unfoldable pub authoriser_of : SelectionFields → Option (List ℕ)
+unfoldable pub authoriser_of : SelectorFields → Option (List ℕ)
 authoriser_of fields = if is_of_member fields then option_and_then as_str (get (codes "join_authorised_via_users_server") fields.content) else None
 
 -- the keys of an event that a room has one of, and of the membership of a user
@@ -59,7 +59,7 @@ member_key user = (codes "m.room.member", user)
 
 -- in their order, with `None` for what is not selected: the create event, the power levels, the membership of the sender; of a member
 -- event the membership of the target, the join rules, the membership of the authorising user
-unfoldable pub selection_keys : SelectionFields → List (Option StateKey)
+unfoldable pub selection_keys : SelectorFields → List (Option StateKey)
 selection_keys fields =
     Some (room_key (codes "m.room.create"))
     ∷ Some (room_key (codes "m.room.power_levels"))
@@ -73,7 +73,7 @@ selection_keys fields =
 abbrev pub is_key : List ℕ → List ℕ → StateKey → Bool
 is_key kind state_key key = bytes_eq key.0 kind && bytes_eq key.1 state_key
 
-abbrev pub is_selected : SelectionFields → List ℕ → List ℕ → Bool
+abbrev pub is_selected : SelectorFields → List ℕ → List ℕ → Bool
 is_selected fields kind state_key = list_any (holds (is_key kind state_key)) (selection_keys fields)
 
 -- ---- the selection
@@ -90,7 +90,7 @@ abbrev pub each_once : List (List ℕ) → List (List ℕ)
 each_once [] = []
 each_once (id ∷ ids) = id ∷ filter (λ other. not (bytes_eq id other)) (each_once ids)
 
-abbrev pub selection_of : SelectionFields → StateMap → List (List ℕ)
+abbrev pub selection_of : SelectorFields → StateMap → List (List ℕ)
 selection_of fields state = each_once (ids_at state (selection_keys fields))
 
 -- the ids with one more, where there is one and they lack it
@@ -104,5 +104,5 @@ abbrev pub is_at : StateMap → List ℕ → Option StateKey → Bool
 is_at state id key = holds (λ held. bytes_eq held id) (entry_of state key)
 
 -- the place of the first key of the selection at which the state has the id
-abbrev pub first_place : SelectionFields → StateMap → List ℕ → ℕ
+abbrev pub first_place : SelectorFields → StateMap → List ℕ → ℕ
 first_place fields state id = position_or_len (is_at state id) (selection_keys fields)

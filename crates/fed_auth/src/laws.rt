@@ -6,16 +6,16 @@ ghost use Rattle.fed_event.specs.Fields.{auth_events_of, kind_of};
 ghost use Rattle.fed_room_contract.specs.declared.graph.Stored.{Stored};
 ghost use Rattle.fed_room_contract.specs.Graph.{id_of};
 ghost use Rattle.fed_room_contract.specs.State.{StateMap, entry_at};
-ghost use Rattle.fed_auth.specs.Selection.{SelectionFields, is_at, first_place, selection_keys, selection_of};
+ghost use Rattle.fed_auth.specs.Selection.{SelectorFields, is_at, first_place, selection_keys, selection_of};
 ghost use Rattle.fed_auth.specs.AuthState.{stored_of, stands_at, auth_state_of};
 
 /// What a selection is, whatever the fields and the state. An id is in it exactly where the state has it at a key of the selection; no two
 /// of its ids are one; and its ids stand in the order of the first keys at which the state has them.
 pub fn what_is_selected()
-    ensures among { (fields : SelectionFields) (state : StateMap) (id : List ℕ) →
+    ensures among { (fields : SelectorFields) (state : StateMap) (id : List ℕ) →
         list_any (λ known. bytes_eq known id) (selection_of fields state) ≡ list_any (is_at state id) (selection_keys fields) }
-    ensures once { (fields : SelectionFields) (state : StateMap) → AllPairs ◌≢◌ (selection_of fields state) }
-    ensures in_order { (fields : SelectionFields) (state : StateMap) →
+    ensures once { (fields : SelectorFields) (state : StateMap) → AllPairs ◌≢◌ (selection_of fields state) }
+    ensures in_order { (fields : SelectorFields) (state : StateMap) →
         AllPairs (λ one other. first_place fields state one < first_place fields state other) (selection_of fields state) }
 {}
 

@@ -1,6 +1,6 @@
 // The auth events that an event has.
 ghost use Rattle.std.specs.Prelude.{◌≡◌, IfOk, OnOk, option_map};
-ghost use Rattle.fed_auth.specs.Selection.{is_by_join_rules, fields_of, entry_of, with_id, selection_of};
+ghost use Rattle.fed_auth.specs.Selection.{is_by_join_rules, selector_of, entry_of, with_id, selection_of};
 ghost use Rattle.fed_auth.specs.SelectionKey.{seen};
 
 use crate::membership::{Membership, authoriser_in};
@@ -18,7 +18,7 @@ use std::marker::Model;
 ///
 /// `NoMemory`.
 pub fn selection(alloc: Global, event: &Pdu, state: &State) -> Result<Vec<EventId>, NoMemory>
-    ensures { IfOk result (λ ids. ids.items ≡ selection_of (fields_of event.now) state.now) }
+    ensures { IfOk result (λ ids. ids.items ≡ selection_of (selector_of event.now) state.now) }
 {
     Selector::from(event).select(alloc, state)
 }
@@ -38,9 +38,9 @@ pub struct Selector<'a> {
 impl<'a> Model for Selector<'a> {
     ghost use Rattle.std.specs.Prelude.{option_map};
     ghost use Rattle.fed_json.specs.JsonRef.{seen};
-    ghost use Rattle.fed_auth.specs.Selection.{SelectionFields, fields_code};
+    ghost use Rattle.fed_auth.specs.Selection.{SelectorFields, fields_code};
 
-    ghost Value = { SelectionFields };
+    ghost Value = { SelectorFields };
 
     ghost coded = { fields_code };
 
@@ -48,9 +48,9 @@ impl<'a> Model for Selector<'a> {
 }
 
 impl<'a> From<&'a Pdu> for Selector<'a> {
-    ghost use Rattle.fed_auth.specs.Selection.{fields_of};
+    ghost use Rattle.fed_auth.specs.Selection.{selector_of};
 
-    ghost from_gives = { λ event selector. selector ≡ fields_of event.now };
+    ghost from_gives = { λ event selector. selector ≡ selector_of event.now };
 
     fn from(event: &'a Pdu) -> Selector<'a> {
         Selector {
@@ -64,7 +64,7 @@ impl<'a> From<&'a Pdu> for Selector<'a> {
 
 impl<'a> Selector<'a> {
     ghost use Rattle.fed_json.specs.JsonRef.{seen as seen_value};
-    ghost use Rattle.fed_auth.specs.Selection.{SelectionFields, is_of_member, target_of, authoriser_of, needs_join_rules, selection_keys, is_selected};
+    ghost use Rattle.fed_auth.specs.Selection.{is_of_member, target_of, authoriser_of, needs_join_rules, selection_keys, is_selected};
     ghost use Rattle.fed_auth.specs.SelectionKey.{all_seen};
 
     /// The selector of these fields.
@@ -74,8 +74,8 @@ impl<'a> Selector<'a> {
         state_key: Option<&'a str>,
         content: JsonRef<'a>,
     ) -> Selector<'a>
-        ensures { let fields : SelectionFields = record { kind = kind.now; sender = sender.now; state_key = option_map (λ key. key.now) state_key.entry; content = seen_value content.entry } in
-            result ≡ fields }
+        ensures { result
+            ≡ record { kind = kind.now; sender = sender.now; state_key = option_map (λ key. key.now) state_key.entry; content = seen_value content.entry } }
     {
         Selector {
             kind,
