@@ -16,10 +16,10 @@ use Rattle.fed_room_contract.proofs.States.{entry_at-same, entry_at-other}
 use Rattle.fed_auth.specs.Table.{rule, decide, Row}
 use Rattle.fed_auth.specs.AuthState.{kind_in, state_key_in, are_alike, has_double, stands_at, with_id_at, with_stored, with_all, auth_table, answer_of}
 
-same_bytes : (xs ys : List ℕ) → bytes_eq xs ys ≡ true → xs ≡ ys
+pub same_bytes : (xs ys : List ℕ) → bytes_eq xs ys ≡ true → xs ≡ ys
 same_bytes xs ys h = (bytes_eq-Decides xs ys).0 h
 
-itself : (xs : List ℕ) → bytes_eq xs xs ≡ true
+pub itself : (xs : List ℕ) → bytes_eq xs xs ≡ true
 itself xs = (bytes_eq-Decides xs xs).1 refl
 
 -- the two parts of a key are those at which something is laid
@@ -41,7 +41,7 @@ laid-other s k (Some x) id kind key h =
     (λ e. absurd (true≢false (sym (sym h ∙ ap (λ q. bytes_eq q.0 k && bytes_eq q.1 x) e ∙ ap (λ b. b && bytes_eq x x) (itself k) ∙ itself x))))
 
 -- what is alike one that stands at a key stands there too
-same_key : (o : Option (List ℕ)) (key : List ℕ) → option_eq bytes_eq (Some key) o ≡ true → o ≡ Some key
+pub same_key : (o : Option (List ℕ)) (key : List ℕ) → option_eq bytes_eq (Some key) o ≡ true → o ≡ Some key
 same_key None key h = absurd (true≢false (sym h))
 same_key (Some x) key h = ap Some (sym (same_bytes key x h))
 

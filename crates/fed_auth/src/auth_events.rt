@@ -140,7 +140,7 @@ fn are_alike(one: &Stored, other: &Stored) -> bool
 }
 
 // What rules 2.2 to 2.5 look for among auth events: whether some is so.
-#[derive(Clone, Copy)]
+#[derive(Drop)]
 struct AuthFacts {
     is_outside_selection: bool,
     is_rejected: bool,

@@ -33,7 +33,7 @@ mod state_view;
 
 pub use auth_events::auth_state;
 pub use join_rule::JoinRule;
-pub use laws::{what_an_auth_state_has, what_is_selected};
+pub use laws::{selections_pass, what_an_auth_state_has, what_is_selected};
 pub use level::Level;
 pub use levels::Levels;
 pub use membership::{Membership, authorising_user};
