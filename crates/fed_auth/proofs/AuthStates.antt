@@ -1,5 +1,5 @@
 -- Auth states, by look-ups among the auth events.
-use Rattle.std.proofs.Common.{◌≡◌, ℕ, List, [], ◌∷◌, Bool, true, false, true≢false, ◌&&◌, ◌||◌, cond, Option, Some, None, option_map, is_some, Result, Ok, Err, bytes_eq, refl, sym, ◌∙◌, ap}
+use Rattle.std.proofs.Common.{◌≡◌, ℕ, List, [], ◌∷◌, Bool, true, false, true≢false, ◌&&◌, cond, Option, Some, None, option_map, is_some, Result, Ok, Err, bytes_eq, refl, sym, ◌∙◌, ap}
 use Rattle.std.proofs.lemmas.Bool.{and_parts, or_parts}
 use Rattle.std.proofs.lemmas.Slice.Eq.{bytes_eq-Decides}
 use Rattle.std.specs.Bool.{⊤}
@@ -16,10 +16,10 @@ use Rattle.fed_room_contract.proofs.States.{entry_at-same, entry_at-other}
 use Rattle.fed_auth.specs.Table.{rule, decide, Row}
 use Rattle.fed_auth.specs.AuthState.{kind_in, state_key_in, are_alike, has_double, stands_at, with_id_at, with_stored, with_all, auth_table, answer_of}
 
-same_bytes : (xs ys : List ℕ) → bytes_eq xs ys ≡ true → xs ≡ ys
+pub same_bytes : (xs ys : List ℕ) → bytes_eq xs ys ≡ true → xs ≡ ys
 same_bytes xs ys h = (bytes_eq-Decides xs ys).0 h
 
-itself : (xs : List ℕ) → bytes_eq xs xs ≡ true
+pub itself : (xs : List ℕ) → bytes_eq xs xs ≡ true
 itself xs = (bytes_eq-Decides xs xs).1 refl
 
 -- the two parts of a key are those at which something is laid
@@ -41,7 +41,7 @@ laid-other s k (Some x) id kind key h =
     (λ e. absurd (true≢false (sym (sym h ∙ ap (λ q. bytes_eq q.0 k && bytes_eq q.1 x) e ∙ ap (λ b. b && bytes_eq x x) (itself k) ∙ itself x))))
 
 -- what is alike one that stands at a key stands there too
-same_key : (o : Option (List ℕ)) (key : List ℕ) → option_eq bytes_eq (Some key) o ≡ true → o ≡ Some key
+pub same_key : (o : Option (List ℕ)) (key : List ℕ) → option_eq bytes_eq (Some key) o ≡ true → o ≡ Some key
 same_key None key h = absurd (true≢false (sym h))
 same_key (Some x) key h = ap Some (sym (same_bytes key x h))
 
@@ -49,8 +49,8 @@ alike : (kind key : List ℕ) (one other : Stored) → stands_at kind key one �
 unfolding stands_at are_alike
 alike kind key one other h =
     let parts = and_parts (bytes_eq kind (kind_in one)) (option_eq bytes_eq (Some key) (state_key_in one)) h in
-    ap (λ k. bytes_eq k (kind_in other) && option_eq bytes_eq (state_key_in one) (state_key_in other)) (sym (same_bytes kind (kind_in one) parts.0))
-    ∙ ap (λ o. bytes_eq kind (kind_in other) && option_eq bytes_eq o (state_key_in other)) (same_key (state_key_in one) key parts.1)
+    ap (λ k. is_some (state_key_in one) && bytes_eq k (kind_in other) && option_eq bytes_eq (state_key_in one) (state_key_in other)) (sym (same_bytes kind (kind_in one) parts.0))
+    ∙ ap (λ o. is_some o && bytes_eq kind (kind_in other) && option_eq bytes_eq o (state_key_in other)) (same_key (state_key_in one) key parts.1)
 
 is_none : {X : Type 0} (o : Option X) → is_some o ≡ false → o ≡ None
 is_none None h = refl

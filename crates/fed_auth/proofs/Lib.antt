@@ -1,2 +1,3 @@
-pub mod Selections
 pub mod AuthStates
+pub mod Selections
+pub mod Passing

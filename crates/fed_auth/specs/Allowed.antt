@@ -15,15 +15,15 @@ use Rattle.fed_auth.specs.Membership.{membership_in, is_joined}
 use Rattle.fed_auth.specs.MemberRules.{table_of}
 use Rattle.fed_auth.specs.CreateRules.{create_table}
 use Rattle.fed_auth.specs.PowerRules.{power_table}
-use Rattle.fed_auth.specs.EventRules.{is_unfederated, is_no_change, is_unauthorised, is_of_other_user}
-use Rattle.fed_auth.specs.Room.{Look, event_in, create_event, power_content, room_levels, membership_of, facts_of}
+use Rattle.fed_auth.specs.EventRules.{is_unfederated, member_target, is_unauthorised, is_of_other_user}
+use Rattle.fed_auth.specs.StateView.{Look, event_in, create_event, power_content, room_levels, membership_of, facts_of}
 
 -- rule 4: m.room.member
 unfoldable pub member_table : Look → LevelsGiven → Data → CheckedEvent → List Row
 member_table look levels create checked =
     let event = checked.event in
-    let target = unwrap_or (state_key_of event) [] in
-    reject (rule 4 1 0) (is_no_change event)
+    let target = unwrap_or (member_target event) [] in
+    reject (rule 4 1 0) (is_none (member_target event))
     ∷ reject (rule 4 2 0) (is_unauthorised checked)
     ∷ table_of (membership_in (content_of event)) (facts_of look levels create event target)
 

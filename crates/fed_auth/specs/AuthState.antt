@@ -1,6 +1,6 @@
 -- Rule 2 of the authorization rules (Matrix, room version 10, "Authorization rules"): conditions over the auth events of an event, and
 -- the state that they make. A create event has none.
-use Rattle.std.specs.Prelude.{ℕ, List, [], ◌∷◌, Bool, true, false, not, ◌&&◌, ◌||◌, ⊤, Option, None, Some, Result, Ok, Err, if◌then◌else◌, codes, bytes_eq}
+use Rattle.std.specs.Prelude.{◌≡◌, ℕ, List, [], ◌∷◌, Bool, true, false, not, ◌&&◌, ◌||◌, ⊤, Option, None, Some, is_some, Result, Ok, Err, if◌then◌else◌, codes, bytes_eq}
 use Rattle.std.specs.Option.{option_eq}
 use Rattle.std.specs.List.{list_any, filter_map}
 use Rattle.std.specs.FinMap as finite
@@ -11,10 +11,10 @@ use Rattle.fed_room_contract.specs.declared.rule.Rule.{Rule}
 use Rattle.fed_room_contract.specs.declared.verdict.Verdict.{Verdict}
 use Rattle.fed_room_contract.specs.declared.verdict.Verdict.TheVariants.{Accepted, Rejected, SoftFailed}
 use Rattle.fed_room_contract.specs.declared.graph.Stored.{Stored}
-use Rattle.fed_room_contract.specs.State.{StateMap, with_entry}
+use Rattle.fed_room_contract.specs.State.{StateMap, entry_at, with_entry}
 use Rattle.fed_room_contract.specs.Graph.{id_of, stored_at}
 use Rattle.fed_auth.specs.Table.{Row, rule, reject, decide}
-use Rattle.fed_auth.specs.Selection.{is_selected}
+use Rattle.fed_auth.specs.Selection.{selector_of, is_selected}
 
 -- the stored events of these ids
 abbrev pub stored_of : List Stored → List (List ℕ) → List Stored
@@ -26,9 +26,10 @@ kind_in stored = kind_of stored.event.event
 abbrev pub state_key_in : Stored → Option (List ℕ)
 state_key_in stored = state_key_of stored.event.event
 
--- two of one type and state key
+-- two of one type and state key: an event without a state key is like no other
 unfoldable pub are_alike : Stored → Stored → Bool
-are_alike one other = bytes_eq (kind_in one) (kind_in other) && option_eq bytes_eq (state_key_in one) (state_key_in other)
+are_alike one other =
+    is_some (state_key_in one) && bytes_eq (kind_in one) (kind_in other) && option_eq bytes_eq (state_key_in one) (state_key_in other)
 
 abbrev pub has_double : List Stored → Bool
 has_double [] = false
@@ -40,7 +41,7 @@ stands_at kind key auth = bytes_eq kind (kind_in auth) && option_eq bytes_eq (So
 
 -- an event without a state key is never selected
 unfoldable pub is_outside_selection : Data → Stored → Bool
-is_outside_selection event auth = not (holds (is_selected event (kind_in auth)) (state_key_in auth))
+is_outside_selection event auth = not (holds (is_selected (selector_of event) (kind_in auth)) (state_key_in auth))
 
 abbrev pub is_rejection : Verdict → Bool
 is_rejection Accepted = false
@@ -89,3 +90,7 @@ unfoldable pub auth_state_of : List Stored → Data → Result StateMap Rule
 auth_state_of events event =
     let auth = stored_of events (auth_events_of event) in
     if bytes_eq (kind_of event) (codes "m.room.create") then Ok finite.empty else answer_of (decide (auth_table event auth)) (with_all finite.empty auth)
+
+-- what a state names at a type and a state key is, where it is stored, an event of these
+pub record NamesOwnEvents (events : List Stored) (state : StateMap) : Type 0 where
+  pub each : (kind key id : List ℕ) (auth : Stored) → entry_at state kind key ≡ Some id → stored_at events id ≡ Some auth → stands_at kind key auth ≡ true

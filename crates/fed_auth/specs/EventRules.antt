@@ -1,6 +1,6 @@
 -- Conditions of the authorization rules on an event alone, or beside the create event (Matrix, room version 10, "Authorization rules",
 -- rules 3, 4.1, 4.2 and 8).
-use Rattle.std.specs.Prelude.{ℕ, List, [], ◌∷◌, Bool, false, not, ◌&&◌, ◌||◌, ◌==◌, is_none, option_and_then, slice_index, codes, bytes_eq}
+use Rattle.std.specs.Prelude.{ℕ, List, [], ◌∷◌, Bool, false, not, ◌&&◌, ◌==◌, Option, None, is_some, option_and_then, slice_index, codes, bytes_eq, if◌then◌else◌}
 use Rattle.serde_json.specs.Data.{Data}
 use Rattle.serde_json.specs.Find.{as_bool, as_str, get}
 use Rattle.fed_event.specs.Tests.{holds}
@@ -14,9 +14,9 @@ unfoldable pub is_unfederated : Data → Data → Bool
 is_unfederated create event =
     holds not (option_and_then as_bool (get (codes "m.federate") (content_of create))) && not (are_of_one_server (sender_of event) (sender_of create))
 
--- a member event that has no state key or no `membership`
-unfoldable pub is_no_change : Data → Bool
-is_no_change event = is_none (state_key_of event) || is_none (get (codes "membership") (content_of event))
+-- the user that a member event is about: its state key, where it has one and a `membership`
+unfoldable pub member_target : Data → Option (List ℕ)
+member_target event = if is_some (get (codes "membership") (content_of event)) then state_key_of event else None
 
 -- it names a user that authorises it, and that is no user id, or of a server that has not signed
 abbrev pub is_user : Data → Bool

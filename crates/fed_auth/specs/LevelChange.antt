@@ -1,7 +1,7 @@
 -- What a power levels event may change (Matrix, room version 10, "Authorization rules", rule 9): conditions over the contents of the
 -- event and of the power levels event before it, and the sender's level. Of the content before, what stands at the place of a level
 -- and is none counts as missing.
-use Rattle.std.specs.Prelude.{ℕ, ℤ, int_lt, List, [], ◌∷◌, ◌++◌, Bool, not, ◌&&◌, ◌||◌, Option, codes, bytes_eq, option_and_then, unwrap_or}
+use Rattle.std.specs.Prelude.{ℕ, ℤ, int_lt, List, [], ◌∷◌, Bool, not, ◌&&◌, ◌||◌, Option, codes, bytes_eq, option_and_then, unwrap_or}
 use Rattle.std.specs.Option.{option_eq}
 use Rattle.std.specs.Ordering.{int_eq}
 use Rattle.std.specs.List.{list_any, list_all}
@@ -13,14 +13,16 @@ use Rattle.fed_event.specs.Ids.{is_user_id}
 use Rattle.fed_auth.specs.Levels.{whole_in}
 
 -- the levels that stand alone: the defaults, and those of actions; and the groups of levels
-abbrev pub default_names : List (List ℕ)
-default_names = codes "users_default" ∷ codes "events_default" ∷ codes "state_default" ∷ []
-
-abbrev pub action_names : List (List ℕ)
-action_names = codes "ban" ∷ codes "redact" ∷ codes "kick" ∷ codes "invite" ∷ []
-
 abbrev pub single_names : List (List ℕ)
-single_names = default_names ++ action_names
+single_names =
+    codes "users_default"
+    ∷ codes "events_default"
+    ∷ codes "state_default"
+    ∷ codes "ban"
+    ∷ codes "redact"
+    ∷ codes "kick"
+    ∷ codes "invite"
+    ∷ []
 
 abbrev pub group_names : List (List ℕ)
 group_names = codes "events" ∷ codes "notifications" ∷ []
@@ -69,8 +71,8 @@ abbrev pub is_not_below : ℤ → Option ℤ → Bool
 is_not_below level value = holds (λ v. not (int_lt v level)) value
 
 -- the other content has another level or none in its place in the group
-abbrev pub is_alone : List ℕ → Data → List ℕ × Data → Bool
-is_alone group other entry = differs (as_whole entry.1) (option_and_then (whole_in entry.0) (get group other))
+abbrev pub is_changed_in : List ℕ → Data → List ℕ × Data → Bool
+is_changed_in group other entry = differs (as_whole entry.1) (option_and_then (whole_in entry.0) (get group other))
 
 -- the level of this name differs, and the old or the new one is above the sender's
 unfoldable pub is_single_above : ℤ → Data → Data → List ℕ → Bool
@@ -79,7 +81,7 @@ is_single_above level old new name =
 
 -- some entry of the group in the one content that the other has not, and that is above the sender's level
 unfoldable pub has_above : ℤ → List ℕ → Data → Data → Bool
-has_above level group one other = list_any (λ entry. is_alone group other entry && is_above level (as_whole entry.1)) (entries_in group one)
+has_above level group one other = list_any (λ entry. is_changed_in group other entry && is_above level (as_whole entry.1)) (entries_in group one)
 
 -- a level that stands alone is added, changed or removed, and the old or the new one is above the sender's
 unfoldable pub changes_single_above : ℤ → Data → Data → Bool
@@ -96,7 +98,7 @@ adds_entry_above level old new = list_any (λ group. has_above level group new o
 -- an entry of `users` for another user than the sender that was not below the sender's level is changed or removed
 unfoldable pub removes_user_not_below : ℤ → List ℕ → Data → Data → Bool
 removes_user_not_below level sender old new =
-    list_any (λ entry. not (bytes_eq entry.0 sender) && (is_alone (codes "users") new entry && is_not_below level (as_whole entry.1))) (entries_in (codes "users") old)
+    list_any (λ entry. not (bytes_eq entry.0 sender) && (is_changed_in (codes "users") new entry && is_not_below level (as_whole entry.1))) (entries_in (codes "users") old)
 
 -- an entry of `users` that is above it is added, or made of another
 unfoldable pub adds_user_above : ℤ → Data → Data → Bool

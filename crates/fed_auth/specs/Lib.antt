@@ -7,8 +7,11 @@ pub mod MemberRules
 pub mod CreateRules
 pub mod PowerRules
 pub mod EventRules
-pub mod Room
-pub mod RoomParts
+pub mod StateView
+pub mod StateViewParts
 pub mod Allowed
 pub mod Selection
+pub mod SelectionKey
 pub mod AuthState
+pub mod AuthEvents
+pub mod AuthFacts

@@ -13,9 +13,9 @@ unfoldable pub join_table : MemberFacts → List Row
 join_table f =
     allow (rule 4 3 1) f.is_first
     ∷ reject (rule 4 3 2) (not f.is_own)
-    ∷ reject (rule 4 3 3) (is_banned f.sender)
-    ∷ allow (rule 4 3 4) (is_invite_or_knock f.join_rule && is_invited_or_joined f.sender)
-    ∷ exactly (rule 4 3 5) (is_restricted f.join_rule) (is_invited_or_joined f.sender || f.is_authorised)
+    ∷ reject (rule 4 3 3) (is_banned f.sender.membership)
+    ∷ allow (rule 4 3 4) (is_invite_or_knock f.join_rule && is_invited_or_joined f.sender.membership)
+    ∷ exactly (rule 4 3 5) (is_restricted f.join_rule) (is_invited_or_joined f.sender.membership || f.is_authorised)
     ∷ allow (rule 4 3 6) (is_public f.join_rule)
     ∷ reject (rule 4 3 7) true
     ∷ []
@@ -23,25 +23,25 @@ join_table f =
 unfoldable pub invite_table : MemberFacts → List Row
 invite_table f =
     reject (rule 4 4 1) f.is_third_party
-    ∷ reject (rule 4 4 2) (not (is_joined f.sender))
-    ∷ reject (rule 4 4 3) (is_joined f.target || is_banned f.target)
-    ∷ allow (rule 4 4 4) (int_le f.invite_level f.sender_level)
+    ∷ reject (rule 4 4 2) (not (is_joined f.sender.membership))
+    ∷ reject (rule 4 4 3) (is_joined f.target.membership || is_banned f.target.membership)
+    ∷ allow (rule 4 4 4) (int_le f.needed.invite f.sender.level)
     ∷ reject (rule 4 4 5) true
     ∷ []
 
 unfoldable pub leave_table : MemberFacts → List Row
 leave_table f =
-    exactly (rule 4 5 1) f.is_own (is_invited_or_joined f.sender || is_knocking f.sender)
-    ∷ reject (rule 4 5 2) (not (is_joined f.sender))
-    ∷ reject (rule 4 5 3) (is_banned f.target && int_lt f.sender_level f.ban_level)
-    ∷ allow (rule 4 5 4) (int_le f.kick_level f.sender_level && int_lt f.target_level f.sender_level)
+    exactly (rule 4 5 1) f.is_own (is_invited_or_joined f.sender.membership || is_knocking f.sender.membership)
+    ∷ reject (rule 4 5 2) (not (is_joined f.sender.membership))
+    ∷ reject (rule 4 5 3) (is_banned f.target.membership && int_lt f.sender.level f.needed.ban)
+    ∷ allow (rule 4 5 4) (int_le f.needed.kick f.sender.level && int_lt f.target.level f.sender.level)
     ∷ reject (rule 4 5 5) true
     ∷ []
 
 unfoldable pub ban_table : MemberFacts → List Row
 ban_table f =
-    reject (rule 4 6 1) (not (is_joined f.sender))
-    ∷ allow (rule 4 6 2) (int_le f.ban_level f.sender_level && int_lt f.target_level f.sender_level)
+    reject (rule 4 6 1) (not (is_joined f.sender.membership))
+    ∷ allow (rule 4 6 2) (int_le f.needed.ban f.sender.level && int_lt f.target.level f.sender.level)
     ∷ reject (rule 4 6 3) true
     ∷ []
 
@@ -49,7 +49,7 @@ unfoldable pub knock_table : MemberFacts → List Row
 knock_table f =
     reject (rule 4 7 1) (not (may_knock f.join_rule))
     ∷ reject (rule 4 7 2) (not f.is_own)
-    ∷ allow (rule 4 7 3) (not (is_banned f.sender) && not (is_invited_or_joined f.sender))
+    ∷ allow (rule 4 7 3) (not (is_banned f.sender.membership) && not (is_invited_or_joined f.sender.membership))
     ∷ reject (rule 4 7 4) true
     ∷ []
 

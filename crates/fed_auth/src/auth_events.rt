@@ -1,13 +1,14 @@
 // What rule 2 makes of the auth events of an event.
-ghost use Rattle.std.specs.Prelude.{◌≡◌, IfOk, OnOk};
+ghost use Rattle.std.specs.Prelude.{◌≡◌, true, Ok, Err, IfOk, OnOk, codes, bytes_eq};
 ghost use Rattle.std.specs.List.{list_any};
 ghost use Rattle.std.specs.FinMap as finite;
-ghost use Rattle.fed_event.specs.EventIds.{ids_left};
-ghost use Rattle.fed_event.specs.Fields.{auth_events_of};
+ghost use Rattle.fed_event.specs.Fields.{auth_events_of, kind_of};
+ghost use Rattle.fed_room_contract.specs.declared.rule.Rule.{Rule};
 ghost use Rattle.fed_auth.specs.Table.{decide};
 ghost use Rattle.fed_auth.specs.AuthState.{stored_of, are_alike, has_double, is_outside_selection, is_rejected, is_create, is_of_other_room, auth_table, with_stored, with_all, auth_state_of};
+ghost use Rattle.fed_auth.specs.AuthEvents.{events_left};
 
-use crate::selected::is_selected;
+use crate::selector::Selector;
 use fed_event::{EventIds, Pdu};
 use fed_json::NoMemory;
 use fed_room_contract::{Graph, Rule, State, Stored, Verdict};
@@ -17,20 +18,26 @@ use std::alloc::Global;
 /// event. A create event has no auth events, and its state is empty. An auth event that the graph does not have is left out.
 ///
 /// The rules, of which the first that holds is answered: 2.1 two auth events of one type and state key; 2.2 one outside the selection of
-/// the event; 2.3 one that was rejected; 2.4 none that is a create event; 2.5 one of another room.
+/// the event, as each is that has no state key; 2.3 one that was rejected; 2.4 none that is a create event; 2.5 one of another room.
+///
+/// # Errors
+///
+/// `NoMemory`, and only where there is a state to make: a rejection and the state of a create event take no memory.
 #[tactic(auto, unfolding(crate::specs::AuthState::auth_state_of))]
 pub fn auth_state(
     alloc: Global,
     graph: &Graph,
     event: &Pdu,
 ) -> Result<Result<State, Rule>, NoMemory>
-    ensures { IfOk result (λ answer. answer ≡ auth_state_of graph.now.stored event.now) }
+    ensures answer { IfOk result (λ answer. answer ≡ auth_state_of graph.now.stored event.now) }
+    ensures create { bytes_eq (kind_of event.now) (codes "m.room.create") ≡ true → result ≡ Ok (Ok finite.empty) }
+    ensures rejected { (rule : Rule) → auth_state_of graph.now.stored event.now ≡ Err rule → result ≡ Ok (Err rule) }
 {
     if event.kind() == "m.room.create" {
         return Ok(Ok(State::new(alloc)));
     }
     match check_auth_events(graph, event) {
-        Ok(()) => Ok(Ok(state_of(alloc, graph, event.auth_events())?)),
+        Ok(()) => Ok(Ok(state_of(alloc, auth_events(graph, event))?)),
         Err(rule) => Ok(Err(rule)),
     }
 }
@@ -40,33 +47,71 @@ pub fn auth_state(
 fn check_auth_events(graph: &Graph, event: &Pdu) -> Result<(), Rule>
     ensures { result ≡ decide (auth_table event.now (stored_of graph.now.stored (auth_events_of event.now))) }
 {
-    if has_double(graph, event.auth_events()) {
+    let events = auth_events(graph, event);
+    if has_double(events) {
         return Err(Rule::condition(2, 1));
     }
-    if has_outside_selection(graph, event) {
+    let facts = AuthFacts::of(event, events);
+    if facts.is_outside_selection {
         return Err(Rule::condition(2, 2));
     }
-    if has_rejected(graph, event.auth_events()) {
+    if facts.is_rejected {
         return Err(Rule::condition(2, 3));
     }
-    if !has_create(graph, event.auth_events()) {
+    if !facts.is_create {
         return Err(Rule::condition(2, 4));
     }
-    if has_other_room(graph, event) {
+    if facts.is_of_other_room {
         return Err(Rule::condition(2, 5));
     }
     Ok(())
 }
 
-// 2.1: two of one type and state key.
-fn has_double(graph: &Graph, ids: EventIds<'_>) -> bool
-    ensures { result ≡ has_double (stored_of graph.now.stored (ids_left ids.entry)) }
+// The auth events of an event that a graph has, from the first that is left on.
+#[derive(Clone, Copy)]
+struct AuthEvents<'a> {
+    graph: &'a Graph,
+    ids: EventIds<'a>,
+}
+
+impl<'a> Iterator for AuthEvents<'a> {
+    ghost use Rattle.std.specs.Iterator.{YieldsFirstRef, item_count};
+    ghost use Rattle.fed_auth.specs.AuthEvents.{events_left};
+
+    type Item = &'a Stored;
+
+    ghost next_gives = { YieldsFirstRef events_left };
+
+    ghost remaining = { item_count events_left };
+
+    #[tactic(auto, unfolding(crate::specs::AuthEvents::events_left))]
+    fn next(&mut self) -> Option<&'a Stored> {
+        while let Some(id) = self.ids.next() {
+            if let Some(auth) = self.graph.get(id) {
+                return Some(auth);
+            }
+        }
+        None
+    }
+}
+
+#[tactic(auto, unfolding(crate::specs::AuthEvents::events_left))]
+fn auth_events<'a>(graph: &'a Graph, event: &'a Pdu) -> AuthEvents<'a>
+    ensures { events_left result ≡ stored_of graph.now.stored (auth_events_of event.now) }
 {
-    let mut others = ids;
-    while let Some(id) = others.next() {
-        if let Some(one) = graph.get(id)
-            && has_alike(graph, one, others)
-        {
+    AuthEvents {
+        graph,
+        ids: event.auth_events(),
+    }
+}
+
+// 2.1: two of one type and state key.
+fn has_double(events: AuthEvents<'_>) -> bool
+    ensures { result ≡ has_double (events_left events.entry) }
+{
+    let mut others = events;
+    while let Some(one) = others.next() {
+        if has_alike(others, one) {
             return true;
         }
     }
@@ -74,13 +119,11 @@ fn has_double(graph: &Graph, ids: EventIds<'_>) -> bool
 }
 
 // Whether one of these has the type and the state key of this one.
-fn has_alike(graph: &Graph, one: &Stored, ids: EventIds<'_>) -> bool
-    ensures { result ≡ list_any (are_alike one.now) (stored_of graph.now.stored (ids_left ids.entry)) }
+fn has_alike(events: AuthEvents<'_>, one: &Stored) -> bool
+    ensures { result ≡ list_any (are_alike one.now) (events_left events.entry) }
 {
-    for id in ids {
-        if let Some(other) = graph.get(id)
-            && are_alike(one, other)
-        {
+    for other in events {
+        if are_alike(one, other) {
             return true;
         }
     }
@@ -93,48 +136,54 @@ fn are_alike(one: &Stored, other: &Stored) -> bool
 {
     let one = one.event.event();
     let other = other.event.event();
-    one.kind() == other.kind() && one.state_key() == other.state_key()
+    one.state_key().is_some() && one.kind() == other.kind() && one.state_key() == other.state_key()
+}
+
+// What rules 2.2 to 2.5 look for among auth events: whether some is so.
+#[derive(Drop)]
+struct AuthFacts {
+    is_outside_selection: bool,
+    is_rejected: bool,
+    is_create: bool,
+    is_of_other_room: bool,
+}
+
+impl AuthFacts {
+    ghost use Rattle.fed_auth.specs.AuthFacts.{facts_of};
+
+    // What holds of these auth events of an event.
+    fn of(event: &Pdu, events: AuthEvents<'_>) -> AuthFacts
+        ensures { result ≡ facts_of event.now (events_left events.entry) }
+    {
+        let mut facts = AuthFacts {
+            is_outside_selection: false,
+            is_rejected: false,
+            is_create: false,
+            is_of_other_room: false,
+        };
+        for auth in events {
+            facts.is_outside_selection |= is_outside_selection(event, auth);
+            facts.is_rejected |= is_rejected(auth);
+            facts.is_create |= is_create(auth);
+            facts.is_of_other_room |= is_of_other_room(event, auth);
+        }
+        facts
+    }
 }
 
 // 2.2: one outside the selection.
-fn has_outside_selection(graph: &Graph, event: &Pdu) -> bool
-    ensures { result ≡ list_any (is_outside_selection event.now) (stored_of graph.now.stored (auth_events_of event.now)) }
-{
-    for id in event.auth_events() {
-        if let Some(auth) = graph.get(id)
-            && is_outside_selection(event, auth)
-        {
-            return true;
-        }
-    }
-    false
-}
-
 #[tactic(auto, unfolding(crate::specs::AuthState::is_outside_selection))]
 fn is_outside_selection(event: &Pdu, auth: &Stored) -> bool
     ensures { result ≡ is_outside_selection event.now auth.now }
 {
     let auth = auth.event.event();
     match auth.state_key() {
-        Some(state_key) => !is_selected(event, auth.kind(), state_key),
+        Some(state_key) => !Selector::from(event).selects(auth.kind(), state_key),
         None => true,
     }
 }
 
 // 2.3: one that was rejected.
-fn has_rejected(graph: &Graph, ids: EventIds<'_>) -> bool
-    ensures { result ≡ list_any is_rejected (stored_of graph.now.stored (ids_left ids.entry)) }
-{
-    for id in ids {
-        if let Some(auth) = graph.get(id)
-            && is_rejected(auth)
-        {
-            return true;
-        }
-    }
-    false
-}
-
 fn is_rejected(auth: &Stored) -> bool
     ensures { result ≡ is_rejected auth.now }
 {
@@ -142,19 +191,6 @@ fn is_rejected(auth: &Stored) -> bool
 }
 
 // 2.4: the create event.
-fn has_create(graph: &Graph, ids: EventIds<'_>) -> bool
-    ensures { result ≡ list_any is_create (stored_of graph.now.stored (ids_left ids.entry)) }
-{
-    for id in ids {
-        if let Some(auth) = graph.get(id)
-            && is_create(auth)
-        {
-            return true;
-        }
-    }
-    false
-}
-
 #[tactic(auto, unfolding(crate::specs::AuthState::is_create))]
 fn is_create(auth: &Stored) -> bool
     ensures { result ≡ is_create auth.now }
@@ -163,19 +199,6 @@ fn is_create(auth: &Stored) -> bool
 }
 
 // 2.5: one of another room.
-fn has_other_room(graph: &Graph, event: &Pdu) -> bool
-    ensures { result ≡ list_any (is_of_other_room event.now) (stored_of graph.now.stored (auth_events_of event.now)) }
-{
-    for id in event.auth_events() {
-        if let Some(auth) = graph.get(id)
-            && is_of_other_room(event, auth)
-        {
-            return true;
-        }
-    }
-    false
-}
-
 #[tactic(auto, unfolding(crate::specs::AuthState::is_of_other_room))]
 fn is_of_other_room(event: &Pdu, auth: &Stored) -> bool
     ensures { result ≡ is_of_other_room event.now auth.now }
@@ -184,14 +207,12 @@ fn is_of_other_room(event: &Pdu, auth: &Stored) -> bool
 }
 
 // The state of these events.
-fn state_of(alloc: Global, graph: &Graph, ids: EventIds<'_>) -> Result<State, NoMemory>
-    ensures { IfOk result (λ state. state ≡ with_all finite.empty (stored_of graph.now.stored (ids_left ids.entry))) }
+fn state_of(alloc: Global, events: AuthEvents<'_>) -> Result<State, NoMemory>
+    ensures { IfOk result (λ state. state ≡ with_all finite.empty (events_left events.entry)) }
 {
     let mut state = State::new(alloc);
-    for id in ids {
-        if let Some(auth) = graph.get(id) {
-            lay(alloc, &mut state, auth)?;
-        }
+    for auth in events {
+        lay(alloc, &mut state, auth)?;
     }
     Ok(state)
 }

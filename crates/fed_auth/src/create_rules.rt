@@ -59,10 +59,10 @@ fn is_of_other_server(event: &Pdu) -> bool
 fn has_other_version(event: &Pdu) -> bool
     ensures { result ≡ has_other_version event.now }
 {
-    match event.content().member("room_version") {
-        Some(version) => version.text() != Some("10"),
-        None => false,
-    }
+    event
+        .content()
+        .member("room_version")
+        .is_some_and(|version| version.text() != Some("10"))
 }
 
 #[tactic(auto, unfolding(crate::specs::CreateRules::lacks_creator))]

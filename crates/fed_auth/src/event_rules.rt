@@ -1,10 +1,12 @@
 // Conditions of the rules on an event alone, or beside the create event.
-ghost use Rattle.std.specs.Prelude.{◌≡◌};
+ghost use Rattle.std.specs.Prelude.{◌≡◌, option_map};
+ghost use Rattle.fed_json.specs.JsonRef.{seen};
 ghost use Rattle.fed_event.specs.EventIds.{ids_left};
-ghost use Rattle.fed_auth.specs.EventRules.{is_unfederated, is_no_change, is_unauthorised, is_of_other_user, is_only};
+ghost use Rattle.fed_auth.specs.EventRules.{is_unfederated, member_target, is_user, is_unauthorised, is_of_other_user, is_only};
 
 use crate::create_rules::are_of_one_server;
 use fed_event::{Checked, EventId, EventIds, Pdu, is_user_id};
+use fed_json::JsonRef;
 
 // 3: the room is not federated, and the sender is of another server than the create event's.
 #[tactic(auto, unfolding(crate::specs::EventRules::is_unfederated))]
@@ -18,12 +20,13 @@ pub(crate) fn is_unfederated(create: &Pdu, event: &Pdu) -> bool
     federate == Some(false) && !are_of_one_server(event.sender(), create.sender())
 }
 
-// 4.1: a member event that has no state key or no `membership`.
-#[tactic(auto, unfolding(crate::specs::EventRules::is_no_change))]
-pub(crate) fn is_no_change(event: &Pdu) -> bool
-    ensures { result ≡ is_no_change event.now }
+// 4.1: the user that a member event is about, where it has a state key and a `membership`.
+#[tactic(auto, unfolding(crate::specs::EventRules::member_target))]
+pub(crate) fn member_target(event: &Pdu) -> Option<&str>
+    ensures { option_map (λ s. s.now) result ≡ member_target event.now }
 {
-    event.state_key().is_none() || event.content().member("membership").is_none()
+    event.content().member("membership")?;
+    event.state_key()
 }
 
 // 4.2: the event names a user that authorises it, and that is no user id, or of a server that has not signed.
@@ -31,13 +34,17 @@ pub(crate) fn is_no_change(event: &Pdu) -> bool
 pub(crate) fn is_unauthorised(checked: &Checked) -> bool
     ensures { result ≡ is_unauthorised checked.now }
 {
-    let content = checked.event().content();
-    match content.member("join_authorised_via_users_server") {
-        Some(user) => {
-            !(user.text().is_some_and(|user| is_user_id(user)) && checked.is_authorised())
-        }
-        None => false,
-    }
+    checked
+        .event()
+        .content()
+        .member("join_authorised_via_users_server")
+        .is_some_and(|user| !(is_user(user) && checked.is_authorised()))
+}
+
+fn is_user(value: JsonRef<'_>) -> bool
+    ensures { result ≡ is_user (seen value.entry) }
+{
+    value.text().is_some_and(|text| is_user_id(text))
 }
 
 // 8: the state key begins with `@` and is another user than the sender.
@@ -45,10 +52,9 @@ pub(crate) fn is_unauthorised(checked: &Checked) -> bool
 pub(crate) fn is_of_other_user(event: &Pdu) -> bool
     ensures { result ≡ is_of_other_user event.now }
 {
-    match event.state_key() {
-        Some(key) => key.starts_with('@') && key != event.sender(),
-        None => false,
-    }
+    event
+        .state_key()
+        .is_some_and(|key| key.starts_with('@') && key != event.sender())
 }
 
 // Whether these ids are this one alone.

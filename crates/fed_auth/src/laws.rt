@@ -1,20 +1,31 @@
 // What holds of all selections and auth states.
-ghost use Rattle.std.specs.Prelude.{◌≡◌, ℕ, List, Ok, false, find, option_map, bytes_eq, codes};
+ghost use Rattle.std.specs.Prelude.{◌≡◌, ◌≢◌, ◌<◌, AllPairs, ℕ, List, Ok, false, find, option_map, bytes_eq, codes};
 ghost use Rattle.std.specs.List.{list_any};
 ghost use Rattle.serde_json.specs.Data.{Data};
 ghost use Rattle.fed_event.specs.Fields.{auth_events_of, kind_of};
-ghost use Rattle.fed_event.specs.Tests.{holds};
 ghost use Rattle.fed_room_contract.specs.declared.graph.Stored.{Stored};
 ghost use Rattle.fed_room_contract.specs.Graph.{id_of};
 ghost use Rattle.fed_room_contract.specs.State.{StateMap, entry_at};
-ghost use Rattle.fed_auth.specs.AuthState.{stored_of, stands_at, auth_state_of};
-ghost use Rattle.fed_auth.specs.Selection.{selection_keys, entry_of, selection_of};
+ghost use Rattle.fed_auth.specs.Selection.{SelectorFields, selector_of, is_at, first_place, selection_keys, selection_of};
+ghost use Rattle.fed_auth.specs.AuthState.{NamesOwnEvents, stored_of, has_double, is_outside_selection, stands_at, auth_state_of};
 
-/// An id is selected exactly where the state has it at one of the keys of the selection.
+/// What a selection is, whatever the fields and the state. An id is in it exactly where the state has it at a key of the selection; no two
+/// of its ids are one; and its ids stand in the order of the first keys at which the state has them.
 pub fn what_is_selected()
-    ensures { (event : Data) (state : StateMap) (id : List ℕ) →
-        list_any (λ known. bytes_eq known id) (selection_of event state)
-        ≡ list_any (λ key. holds (λ held. bytes_eq held id) (entry_of state key)) (selection_keys event) }
+    ensures among { (fields : SelectorFields) (state : StateMap) (id : List ℕ) →
+        list_any (λ known. bytes_eq known id) (selection_of fields state) ≡ list_any (is_at state id) (selection_keys fields) }
+    ensures once { (fields : SelectorFields) (state : StateMap) → AllPairs ◌≢◌ (selection_of fields state) }
+    ensures in_order { (fields : SelectorFields) (state : StateMap) →
+        AllPairs (λ one other. first_place fields state one < first_place fields state other) (selection_of fields state) }
+{}
+
+/// What is selected from a state has no two of one type and state key (2.1) and none outside the selection (2.2), where each event that
+/// the state names is of the type and state key at which it names it.
+pub fn selections_pass()
+    ensures single { (events : List Stored) (fields : SelectorFields) (state : StateMap) → NamesOwnEvents events state
+        → has_double (stored_of events (selection_of fields state)) ≡ false }
+    ensures inside { (events : List Stored) (event : Data) (state : StateMap) → NamesOwnEvents events state
+        → list_any (is_outside_selection event) (stored_of events (selection_of (selector_of event) state)) ≡ false }
 {}
 
 /// The auth state of an event that is no create event has at a type and state key the auth event of that type and state key, and

@@ -1,12 +1,13 @@
 // What a power levels event may change: rule 9 of the authorization rules, by its parts.
-ghost use Rattle.std.specs.Prelude.{◌≡◌, [], option_map, option_and_then, unwrap_or};
+ghost use Rattle.std.specs.Prelude.{◌≡◌, [], map, option_map, option_and_then, unwrap_or};
 ghost use Rattle.std.specs.List.{list_all, list_any};
 ghost use Rattle.serde_json.specs.Find.{get};
 ghost use Rattle.fed_json.specs.JsonRef.{seen, as_whole};
 ghost use Rattle.fed_json.specs.Members.{members_left};
 ghost use Rattle.fed_auth.specs.Levels.{whole_in};
-ghost use Rattle.fed_auth.specs.LevelChange.{entries_in, is_other_kind, is_other_group, is_level_entry, is_user_entry, has_other_single, has_other_group, has_other_users, differs, is_above, is_not_below, is_single_above, default_names, action_names, has_above, changes_single_above, removes_entry_above, adds_entry_above, removes_user_not_below, adds_user_above};
+ghost use Rattle.fed_auth.specs.LevelChange.{entries_in, is_other_kind, is_other_group, is_level_entry, is_user_entry, has_other_single, has_other_group, has_other_users, differs, is_above, is_not_below, single_names, is_single_above, has_above, changes_single_above, removes_entry_above, adds_entry_above, removes_user_not_below, adds_user_above};
 
+use crate::level::Level;
 use fed_event::is_user_id;
 use fed_json::{JsonRef, Members};
 
@@ -15,13 +16,12 @@ use fed_json::{JsonRef, Members};
 pub(crate) fn has_other_single(new: JsonRef<'_>) -> bool
     ensures { result ≡ has_other_single (seen new.entry) }
 {
-    is_other_kind(new, "users_default")
-        || is_other_kind(new, "events_default")
-        || is_other_kind(new, "state_default")
-        || is_other_kind(new, "ban")
-        || is_other_kind(new, "redact")
-        || is_other_kind(new, "kick")
-        || is_other_kind(new, "invite")
+    for name in single_levels() {
+        if is_other_kind(new, name) {
+            return true;
+        }
+    }
+    false
 }
 
 // 9.2: `events` or `notifications` is there and no object of whole numbers.
@@ -45,15 +45,20 @@ pub(crate) fn has_other_users(new: JsonRef<'_>) -> bool
 
 // 9.5: a level that stands alone differs, and the old or the new one is above the sender's level.
 #[tactic(auto, unfolding(crate::specs::LevelChange::changes_single_above))]
-pub(crate) fn changes_single_above(level: i64, old: JsonRef<'_>, new: JsonRef<'_>) -> bool
+pub(crate) fn changes_single_above(level: Level, old: JsonRef<'_>, new: JsonRef<'_>) -> bool
     ensures { result ≡ changes_single_above level (seen old.entry) (seen new.entry) }
 {
-    changes_default_above(level, old, new) || changes_action_above(level, old, new)
+    for name in single_levels() {
+        if is_single_above(level, old, new, name) {
+            return true;
+        }
+    }
+    false
 }
 
 // 9.6: an entry of `events` or `notifications` that was above the sender's level is changed or removed.
 #[tactic(auto, unfolding(crate::specs::LevelChange::removes_entry_above))]
-pub(crate) fn removes_entry_above(level: i64, old: JsonRef<'_>, new: JsonRef<'_>) -> bool
+pub(crate) fn removes_entry_above(level: Level, old: JsonRef<'_>, new: JsonRef<'_>) -> bool
     ensures { result ≡ removes_entry_above level (seen old.entry) (seen new.entry) }
 {
     has_above(level, "events", old, new) || has_above(level, "notifications", old, new)
@@ -61,7 +66,7 @@ pub(crate) fn removes_entry_above(level: i64, old: JsonRef<'_>, new: JsonRef<'_>
 
 // 9.7: an entry of `events` or `notifications` that is above it is added, or made of another.
 #[tactic(auto, unfolding(crate::specs::LevelChange::adds_entry_above))]
-pub(crate) fn adds_entry_above(level: i64, old: JsonRef<'_>, new: JsonRef<'_>) -> bool
+pub(crate) fn adds_entry_above(level: Level, old: JsonRef<'_>, new: JsonRef<'_>) -> bool
     ensures { result ≡ adds_entry_above level (seen old.entry) (seen new.entry) }
 {
     has_above(level, "events", new, old) || has_above(level, "notifications", new, old)
@@ -70,7 +75,7 @@ pub(crate) fn adds_entry_above(level: i64, old: JsonRef<'_>, new: JsonRef<'_>) -
 // 9.8: an entry of `users` for another user that was not below the sender's level is changed or removed.
 #[tactic(auto, unfolding(crate::specs::LevelChange::removes_user_not_below))]
 pub(crate) fn removes_user_not_below(
-    level: i64,
+    level: Level,
     sender: &str,
     old: JsonRef<'_>,
     new: JsonRef<'_>,
@@ -82,8 +87,8 @@ pub(crate) fn removes_user_not_below(
     };
     for (user, value) in entries {
         if user != sender
-            && is_alone("users", new, user, value)
-            && is_not_below(level, value.whole())
+            && is_changed_in("users", new, user, value)
+            && is_not_below(level, Level::of_json(value))
         {
             return true;
         }
@@ -93,10 +98,25 @@ pub(crate) fn removes_user_not_below(
 
 // 9.9: an entry of `users` that is above it is added, or made of another.
 #[tactic(auto, unfolding(crate::specs::LevelChange::adds_user_above))]
-pub(crate) fn adds_user_above(level: i64, old: JsonRef<'_>, new: JsonRef<'_>) -> bool
+pub(crate) fn adds_user_above(level: Level, old: JsonRef<'_>, new: JsonRef<'_>) -> bool
     ensures { result ≡ adds_user_above level (seen old.entry) (seen new.entry) }
 {
     has_above(level, "users", new, old)
+}
+
+// The names of the levels that stand alone: the defaults, and those of actions.
+fn single_levels() -> [&'static str; 7]
+    ensures { map (λ name. name.now) result ≡ single_names }
+{
+    [
+        "users_default",
+        "events_default",
+        "state_default",
+        "ban",
+        "redact",
+        "kick",
+        "invite",
+    ]
 }
 
 // Whether the level of this name is there and no whole number.
@@ -140,45 +160,26 @@ fn are_users(entries: Members<'_>) -> bool
     true
 }
 
-// Whether one of the defaults differs so.
-fn changes_default_above(level: i64, old: JsonRef<'_>, new: JsonRef<'_>) -> bool
-    ensures { result ≡ list_any (is_single_above level (seen old.entry) (seen new.entry)) default_names }
-{
-    is_single_above(level, old, new, "users_default")
-        || is_single_above(level, old, new, "events_default")
-        || is_single_above(level, old, new, "state_default")
-}
-
-// Whether the level of an action does.
-fn changes_action_above(level: i64, old: JsonRef<'_>, new: JsonRef<'_>) -> bool
-    ensures { result ≡ list_any (is_single_above level (seen old.entry) (seen new.entry)) action_names }
-{
-    is_single_above(level, old, new, "ban")
-        || is_single_above(level, old, new, "redact")
-        || is_single_above(level, old, new, "kick")
-        || is_single_above(level, old, new, "invite")
-}
-
 // Whether the level of this name differs, and the old or the new one is above the sender's level.
 #[tactic(auto, unfolding(crate::specs::LevelChange::is_single_above))]
-fn is_single_above(level: i64, old: JsonRef<'_>, new: JsonRef<'_>, name: &str) -> bool
+fn is_single_above(level: Level, old: JsonRef<'_>, new: JsonRef<'_>, name: &str) -> bool
     ensures { result ≡ is_single_above level (seen old.entry) (seen new.entry) name.now }
 {
-    let was = whole_in(name, old);
-    let is = whole_in(name, new);
+    let was = level_in(name, old);
+    let is = level_in(name, new);
     was != is && (is_above(level, was) || is_above(level, is))
 }
 
 // Whether some entry of the group in the one content is not in the other and above the sender's level.
 #[tactic(auto, unfolding(crate::specs::LevelChange::has_above))]
-fn has_above(level: i64, group: &str, one: JsonRef<'_>, other: JsonRef<'_>) -> bool
+fn has_above(level: Level, group: &str, one: JsonRef<'_>, other: JsonRef<'_>) -> bool
     ensures { result ≡ has_above level group.now (seen one.entry) (seen other.entry) }
 {
     let Some(entries) = entries_in(group, one) else {
         return false;
     };
     for (name, value) in entries {
-        if is_alone(group, other, name, value) && is_above(level, value.whole()) {
+        if is_changed_in(group, other, name, value) && is_above(level, Level::of_json(value)) {
             return true;
         }
     }
@@ -186,11 +187,11 @@ fn has_above(level: i64, group: &str, one: JsonRef<'_>, other: JsonRef<'_>) -> b
 }
 
 // Whether the other content has another level than this or none in its place.
-fn is_alone(group: &str, other: JsonRef<'_>, name: &str, value: JsonRef<'_>) -> bool
+fn is_changed_in(group: &str, other: JsonRef<'_>, name: &str, value: JsonRef<'_>) -> bool
     ensures { result ≡ differs (as_whole (seen value.entry)) (option_and_then (whole_in name.now) (get group.now (seen other.entry))) }
 {
-    let there = other.member(group).and_then(|group| whole_in(name, group));
-    value.whole() != there
+    let there = other.member(group).and_then(|group| level_in(name, group));
+    Level::of_json(value) != there
 }
 
 // The entries of a group.
@@ -200,19 +201,19 @@ fn entries_in<'a>(group: &str, content: JsonRef<'a>) -> Option<Members<'a>>
     content.member(group)?.members()
 }
 
-fn whole_in(name: &str, value: JsonRef<'_>) -> Option<i64>
+fn level_in(name: &str, value: JsonRef<'_>) -> Option<Level>
     ensures { result ≡ whole_in name.now (seen value.entry) }
 {
-    value.member(name)?.whole()
+    Level::of_json(value.member(name)?)
 }
 
-fn is_above(level: i64, value: Option<i64>) -> bool
+fn is_above(level: Level, value: Option<Level>) -> bool
     ensures { result ≡ is_above level value }
 {
     value.is_some_and(|value| level < value)
 }
 
-fn is_not_below(level: i64, value: Option<i64>) -> bool
+fn is_not_below(level: Level, value: Option<Level>) -> bool
     ensures { result ≡ is_not_below level value }
 {
     value.is_some_and(|value| level <= value)

@@ -2,6 +2,7 @@
 ghost use Rattle.std.specs.Prelude.{◌≡◌, is_some, option_map};
 ghost use Rattle.fed_json.specs.JsonRef.{seen};
 
+use crate::level::Level;
 use fed_json::JsonRef;
 use std::marker::Model;
 
@@ -40,39 +41,32 @@ impl<'a> Levels<'a> {
 
     /// The level of a user: their entry in `users`, else `users_default`, else 0. Without a power levels event the creator has 100.
     #[tactic(auto, unfolding(crate::specs::Levels::user_level))]
-    pub fn user(&self, user: &str) -> i64
+    pub fn user(&self, user: &str) -> Level
         ensures { result ≡ user_level self.now user.now }
     {
-        match self.content {
-            Some(_) => match self.entry("users", user) {
-                Some(level) => level,
-                None => self.level_or("users_default", 0),
-            },
-            None => match self.creator {
-                Some(creator) => if creator == user { 100 } else { 0 },
-                None => 0,
-            },
+        if self.content.is_none() {
+            return self.first(user);
         }
+        let default = self.level_or("users_default", 0);
+        self.entry("users", user).unwrap_or(default)
     }
 
     /// The level that an event of this type needs: the type's entry in `events`, else `state_default` where it has a state key, else
     /// `events_default`.
     #[tactic(auto, unfolding(crate::specs::Levels::required_level))]
-    pub fn required(&self, kind: &str, state_key: Option<&str>) -> i64
+    pub fn required(&self, kind: &str, state_key: Option<&str>) -> Level
         ensures { result ≡ required_level self.now kind.now (option_map (λ s. s.now) state_key.entry) }
     {
-        match self.entry("events", kind) {
-            Some(level) => level,
-            None => if state_key.is_some() {
-                self.state_default()
-            } else {
-                self.events_default()
-            },
-        }
+        let default = if state_key.is_some() {
+            self.state_default()
+        } else {
+            self.events_default()
+        };
+        self.entry("events", kind).unwrap_or(default)
     }
 
     /// The level that a state event needs whose type has no entry: 50, and without a power levels event 0.
-    pub fn state_default(&self) -> i64
+    pub fn state_default(&self) -> Level
         ensures { result ≡ state_default_level self.now }
     {
         let default = if self.content.is_some() { 50 } else { 0 };
@@ -80,35 +74,35 @@ impl<'a> Levels<'a> {
     }
 
     /// The level that an event without state key needs whose type has no entry: 0.
-    pub fn events_default(&self) -> i64
+    pub fn events_default(&self) -> Level
         ensures { result ≡ events_default_level self.now }
     {
         self.level_or("events_default", 0)
     }
 
     /// The level to ban: 50.
-    pub fn ban(&self) -> i64
+    pub fn ban(&self) -> Level
         ensures { result ≡ ban_level self.now }
     {
         self.level_or("ban", 50)
     }
 
     /// The level to kick: 50.
-    pub fn kick(&self) -> i64
+    pub fn kick(&self) -> Level
         ensures { result ≡ kick_level self.now }
     {
         self.level_or("kick", 50)
     }
 
     /// The level to redact what others sent: 50.
-    pub fn redact(&self) -> i64
+    pub fn redact(&self) -> Level
         ensures { result ≡ redact_level self.now }
     {
         self.level_or("redact", 50)
     }
 
     /// The level to invite: 0.
-    pub fn invite(&self) -> i64
+    pub fn invite(&self) -> Level
         ensures { result ≡ invite_level self.now }
     {
         self.level_or("invite", 0)
@@ -117,26 +111,37 @@ impl<'a> Levels<'a> {
 
 // Parts of the content.
 impl<'a> Levels<'a> {
-    ghost use Rattle.fed_auth.specs.Levels.{level_or, entry_level};
+    ghost use Rattle.fed_auth.specs.Levels.{first_level, level_or, level_of, entry_level};
 
-    // The level of this name, or the default.
-    fn level_or(&self, name: &str, default: i64) -> i64
-        ensures { result ≡ level_or name.now default self.now }
+    // The level of a user of a room without a power levels event.
+    fn first(&self, user: &str) -> Level
+        ensures { result ≡ first_level user.now self.now }
     {
-        match self
-            .content
-            .and_then(|content| content.member(name))
-            .and_then(|value| value.whole())
-        {
-            Some(level) => level,
-            None => default,
+        if self.creator == Some(user) {
+            Level::new(100)
+        } else {
+            Level::new(0)
         }
     }
 
+    // The level of this name, or the default.
+    fn level_or(&self, name: &str, default: i64) -> Level
+        ensures { result ≡ level_or name.now default self.now }
+    {
+        self.level(name).unwrap_or(Level::new(default))
+    }
+
+    // The level of this name.
+    fn level(&self, name: &str) -> Option<Level>
+        ensures { result ≡ level_of name.now self.now }
+    {
+        Level::of_json(self.content?.member(name)?)
+    }
+
     // The level under this name in a group of levels.
-    fn entry(&self, group: &str, name: &str) -> Option<i64>
+    fn entry(&self, group: &str, name: &str) -> Option<Level>
         ensures { result ≡ entry_level group.now name.now self.now }
     {
-        self.content?.member(group)?.member(name)?.whole()
+        Level::of_json(self.content?.member(group)?.member(name)?)
     }
 }

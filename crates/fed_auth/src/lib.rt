@@ -1,9 +1,10 @@
 //! Which events a room allows: the authorization rules of room version 10.
 //!
 //! - `rules`: whether a room allows an event
-//! - `selected`: the auth events that an event has
+//! - `selector`: the auth events that an event has
 //! - `auth_events`: what rule 2 makes of the auth events of an event
 //! - `laws`: what holds of all selections and auth states
+//! - `level`: `Level`, a power level
 //! - `levels`: power levels, as the state of a room gives them
 //! - `membership`: what a member event makes of a user
 //! - `join_rule`: who may join
@@ -11,7 +12,7 @@
 //! - `member_rules`: what rule 4 makes of a member event, by its membership
 //! - `power_rules`: what rule 9 makes of a power levels event
 //! - `level_change`: what a power levels event may change
-//! - `room`: what the state of a room says
+//! - `state_view`: what the state of a room says
 //! - `event_rules`: conditions on an event alone
 #![tactic(auto)]
 
@@ -20,19 +21,21 @@ mod create_rules;
 mod event_rules;
 mod join_rule;
 mod laws;
+mod level;
 mod level_change;
 mod levels;
 mod member_rules;
 mod membership;
 mod power_rules;
-mod room;
 mod rules;
-mod selected;
+mod selector;
+mod state_view;
 
 pub use auth_events::auth_state;
 pub use join_rule::JoinRule;
-pub use laws::{what_an_auth_state_has, what_is_selected};
+pub use laws::{selections_pass, what_an_auth_state_has, what_is_selected};
+pub use level::Level;
 pub use levels::Levels;
 pub use membership::{Membership, authorising_user};
 pub use rules::allowed;
-pub use selected::selection;
+pub use selector::{Selector, selection};

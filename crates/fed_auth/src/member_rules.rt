@@ -3,15 +3,15 @@ ghost use Rattle.std.specs.Prelude.{◌≡◌};
 ghost use Rattle.fed_auth.specs.Table.{decide};
 
 use crate::join_rule::JoinRule;
+use crate::level::Level;
 use crate::membership::Membership;
 use fed_room_contract::Rule;
 
 /// What the rules on a member event look at, beside the membership that it gives. The target is the user whom its state key names.
 #[derive(Clone, Copy)]
 pub struct MemberFacts {
-    /// The sender's membership, and the target's.
-    pub sender: Membership,
-    pub target: Membership,
+    pub sender: Member,
+    pub target: Member,
     /// Whether the sender is the target.
     pub is_own: bool,
     /// Whether the creator joins, right behind the create event.
@@ -21,11 +21,22 @@ pub struct MemberFacts {
     /// Whether the invite comes from a third party.
     pub is_third_party: bool,
     pub join_rule: JoinRule,
-    pub sender_level: i64,
-    pub target_level: i64,
-    pub invite_level: i64,
-    pub kick_level: i64,
-    pub ban_level: i64,
+    pub needed: ActionLevels,
+}
+
+/// What the state says of a user.
+#[derive(Clone, Copy)]
+pub struct Member {
+    pub membership: Membership,
+    pub level: Level,
+}
+
+/// The levels that it takes to invite, to kick and to ban.
+#[derive(Clone, Copy)]
+pub struct ActionLevels {
+    pub invite: Level,
+    pub kick: Level,
+    pub ban: Level,
 }
 
 impl MemberFacts {
@@ -59,14 +70,14 @@ impl MemberFacts {
         if !self.is_own {
             return Err(Rule::branch(4, 3, 2));
         }
-        if self.sender.is_banned() {
+        if self.sender.membership.is_banned() {
             return Err(Rule::branch(4, 3, 3));
         }
-        if self.join_rule.is_invite_or_knock() && self.sender.is_invited_or_joined() {
+        if self.join_rule.is_invite_or_knock() && self.sender.membership.is_invited_or_joined() {
             return Ok(());
         }
         if self.join_rule.is_restricted() {
-            if self.sender.is_invited_or_joined() || self.is_authorised {
+            if self.sender.membership.is_invited_or_joined() || self.is_authorised {
                 return Ok(());
             }
             return Err(Rule::branch(4, 3, 5));
@@ -84,13 +95,13 @@ impl MemberFacts {
         if self.is_third_party {
             return Err(Rule::branch(4, 4, 1));
         }
-        if !self.sender.is_joined() {
+        if !self.sender.membership.is_joined() {
             return Err(Rule::branch(4, 4, 2));
         }
-        if self.target.is_joined() || self.target.is_banned() {
+        if self.target.membership.is_joined() || self.target.membership.is_banned() {
             return Err(Rule::branch(4, 4, 3));
         }
-        if self.invite_level <= self.sender_level {
+        if self.sender.level >= self.needed.invite {
             return Ok(());
         }
         Err(Rule::branch(4, 4, 5))
@@ -101,18 +112,20 @@ impl MemberFacts {
         ensures { result ≡ decide (leave_table self) }
     {
         if self.is_own {
-            if self.sender.is_invited_or_joined() || self.sender.is_knocking() {
+            if self.sender.membership.is_invited_or_joined()
+                || self.sender.membership.is_knocking()
+            {
                 return Ok(());
             }
             return Err(Rule::branch(4, 5, 1));
         }
-        if !self.sender.is_joined() {
+        if !self.sender.membership.is_joined() {
             return Err(Rule::branch(4, 5, 2));
         }
-        if self.target.is_banned() && self.sender_level < self.ban_level {
+        if self.target.membership.is_banned() && self.sender.level < self.needed.ban {
             return Err(Rule::branch(4, 5, 3));
         }
-        if self.kick_level <= self.sender_level && self.target_level < self.sender_level {
+        if self.sender.level >= self.needed.kick && self.target.level < self.sender.level {
             return Ok(());
         }
         Err(Rule::branch(4, 5, 5))
@@ -122,10 +135,10 @@ impl MemberFacts {
     fn allow_ban(self) -> Result<(), Rule>
         ensures { result ≡ decide (ban_table self) }
     {
-        if !self.sender.is_joined() {
+        if !self.sender.membership.is_joined() {
             return Err(Rule::branch(4, 6, 1));
         }
-        if self.ban_level <= self.sender_level && self.target_level < self.sender_level {
+        if self.sender.level >= self.needed.ban && self.target.level < self.sender.level {
             return Ok(());
         }
         Err(Rule::branch(4, 6, 3))
@@ -141,7 +154,7 @@ impl MemberFacts {
         if !self.is_own {
             return Err(Rule::branch(4, 7, 2));
         }
-        if !self.sender.is_banned() && !self.sender.is_invited_or_joined() {
+        if !self.sender.membership.is_banned() && !self.sender.membership.is_invited_or_joined() {
             return Ok(());
         }
         Err(Rule::branch(4, 7, 4))

@@ -4,6 +4,7 @@ ghost use Rattle.fed_json.specs.JsonRef.{seen};
 ghost use Rattle.fed_auth.specs.Table.{decide};
 ghost use Rattle.fed_auth.specs.PowerRules.{power_table};
 
+use crate::level::Level;
 use crate::level_change::{
     adds_entry_above, adds_user_above, changes_single_above, has_other_group, has_other_single,
     has_other_users, removes_entry_above, removes_user_not_below,
@@ -18,7 +19,7 @@ use fed_room_contract::Rule;
 /// 9.1 to 9.3 where the new content is malformed, 9.5 to 9.9 where a change is above the sender's level.
 #[tactic(auto, unfolding(crate::specs::PowerRules::power_table))]
 pub(crate) fn allow_levels(
-    level: i64,
+    level: Level,
     sender: &str,
     old: Option<JsonRef<'_>>,
     new: JsonRef<'_>,

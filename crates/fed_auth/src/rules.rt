@@ -1,16 +1,17 @@
 // Whether a room allows an event.
 ghost use Rattle.std.specs.Prelude.{◌≡◌, Some, option_map};
 ghost use Rattle.fed_auth.specs.Table.{decide};
-ghost use Rattle.fed_auth.specs.Room.{create_event};
-ghost use Rattle.fed_auth.specs.RoomParts.{look_of};
+ghost use Rattle.fed_auth.specs.StateView.{create_event};
+ghost use Rattle.fed_auth.specs.StateViewParts.{look_of};
 ghost use Rattle.fed_auth.specs.Allowed.{member_table, is_outside, lacks_invite_level, lacks_level, other_table, room_table, first_id, allowed_of};
 
 use crate::create_rules::allow_create;
-use crate::event_rules::{is_no_change, is_of_other_user, is_unauthorised, is_unfederated};
+use crate::event_rules::{is_of_other_user, is_unauthorised, is_unfederated, member_target};
+use crate::level::Level;
 use crate::levels::Levels;
 use crate::membership::Membership;
 use crate::power_rules::allow_levels;
-use crate::room::Room;
+use crate::state_view::StateView;
 use fed_event::{Checked, EventId, Pdu};
 use fed_room_contract::{Graph, Rule, State};
 
@@ -28,9 +29,9 @@ pub fn allowed(graph: &Graph, event: &Checked, state: &State) -> Result<(), Rule
     if event.event().kind() == "m.room.create" {
         return allow_create(event.event(), first_id(graph));
     }
-    let room = Room { graph, state };
-    match room.create() {
-        Some(create) => allow_in_room(room, create, event),
+    let view = StateView { graph, state };
+    match view.create() {
+        Some(create) => allow_in_room(view, create, event),
         None => Err(Rule::condition(2, 4)),
     }
 }
@@ -44,53 +45,53 @@ fn first_id(graph: &Graph) -> Option<&EventId>
 
 // Rules 3 to 10, where this is the create event.
 #[tactic(auto, unfolding(crate::specs::Allowed::room_table))]
-fn allow_in_room(room: Room<'_>, create: &Pdu, event: &Checked) -> Result<(), Rule>
-    requires { create_event (look_of room) ≡ Some create.now }
-    ensures { result ≡ decide (room_table (look_of room.entry) create.now event.now) }
+fn allow_in_room(view: StateView<'_>, create: &Pdu, event: &Checked) -> Result<(), Rule>
+    requires { create_event (look_of view) ≡ Some create.now }
+    ensures { result ≡ decide (room_table (look_of view.entry) create.now event.now) }
 {
     if is_unfederated(create, event.event()) {
         return Err(Rule::whole(3));
     }
-    let levels = room.levels(create);
+    let levels = view.levels(create);
     if event.event().kind() == "m.room.member" {
-        return allow_member(room, &levels, create, event);
+        return allow_member(view, &levels, create, event);
     }
-    allow_other(room, &levels, event.event())
+    allow_other(view, &levels, event.event())
 }
 
 // Rule 4.
 #[tactic(auto, unfolding(crate::specs::Allowed::member_table))]
 fn allow_member(
-    room: Room<'_>,
+    view: StateView<'_>,
     levels: &Levels<'_>,
     create: &Pdu,
     event: &Checked,
 ) -> Result<(), Rule>
-    ensures { result ≡ decide (member_table (look_of room.entry) levels.now create.now event.now) }
+    ensures { result ≡ decide (member_table (look_of view.entry) levels.now create.now event.now) }
 {
-    if is_no_change(event.event()) {
+    let Some(target) = member_target(event.event()) else {
         return Err(Rule::condition(4, 1));
-    }
+    };
     if is_unauthorised(event) {
         return Err(Rule::condition(4, 2));
     }
     let event = event.event();
-    let target = event.state_key().unwrap_or("");
-    let facts = room.facts(levels, create, event, target);
+    let facts = view.facts(levels, create, event, target);
     facts.allow(Membership::of_content(event.content()))
 }
 
 // Rules 5 to 10.
 #[tactic(auto, unfolding(crate::specs::Allowed::other_table))]
-fn allow_other(room: Room<'_>, levels: &Levels<'_>, event: &Pdu) -> Result<(), Rule>
-    ensures { result ≡ decide (other_table (look_of room.entry) levels.now event.now) }
+fn allow_other(view: StateView<'_>, levels: &Levels<'_>, event: &Pdu) -> Result<(), Rule>
+    ensures { result ≡ decide (other_table (look_of view.entry) levels.now event.now) }
 {
+    let kind = event.kind();
     let sender = event.sender();
-    if is_outside(room, sender) {
+    if is_outside(view, sender) {
         return Err(Rule::whole(5));
     }
     let level = levels.user(sender);
-    if event.kind() == "m.room.third_party_invite" {
+    if kind == "m.room.third_party_invite" {
         if lacks_invite_level(levels, level) {
             return Err(Rule::whole(6));
         }
@@ -102,23 +103,23 @@ fn allow_other(room: Room<'_>, levels: &Levels<'_>, event: &Pdu) -> Result<(), R
     if is_of_other_user(event) {
         return Err(Rule::whole(8));
     }
-    if event.kind() == "m.room.power_levels" {
-        return allow_levels(level, sender, room.power_levels(), event.content());
+    if kind == "m.room.power_levels" {
+        return allow_levels(level, sender, view.power_levels(), event.content());
     }
     Ok(())
 }
 
 // 5: the user is not joined.
 #[tactic(auto, unfolding(crate::specs::Allowed::is_outside))]
-fn is_outside(room: Room<'_>, user: &str) -> bool
-    ensures { result ≡ is_outside (look_of room.entry) user.now }
+fn is_outside(view: StateView<'_>, user: &str) -> bool
+    ensures { result ≡ is_outside (look_of view.entry) user.now }
 {
-    !room.membership(user).is_joined()
+    !view.membership(user).is_joined()
 }
 
 // 6: the level is below that of an invite.
 #[tactic(auto, unfolding(crate::specs::Allowed::lacks_invite_level))]
-fn lacks_invite_level(levels: &Levels<'_>, level: i64) -> bool
+fn lacks_invite_level(levels: &Levels<'_>, level: Level) -> bool
     ensures { result ≡ lacks_invite_level levels.now level }
 {
     level < levels.invite()
@@ -126,7 +127,7 @@ fn lacks_invite_level(levels: &Levels<'_>, level: i64) -> bool
 
 // 7: the level is below that which the event needs.
 #[tactic(auto, unfolding(crate::specs::Allowed::lacks_level))]
-fn lacks_level(levels: &Levels<'_>, level: i64, event: &Pdu) -> bool
+fn lacks_level(levels: &Levels<'_>, level: Level, event: &Pdu) -> bool
     ensures { result ≡ lacks_level levels.now level event.now }
 {
     level < levels.required(event.kind(), event.state_key())

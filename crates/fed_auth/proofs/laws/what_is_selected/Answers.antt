@@ -1,8 +1,10 @@
-use Rattle.std.proofs.Common.{[]}
-use Rattle.fed_auth.specs.Selection.{selection_keys, selection_of}
-use Rattle.fed_auth.proofs.Selections.{has-ids_at}
+use Rattle.fed_auth.specs.Selection.{selection_keys}
+use Rattle.fed_auth.proofs.Selections.{has-each_once, in_order, once_each}
 use Rattle.fed_auth.proofs.laws.what_is_selected.Goals as goal
 
 pub returns : goal.returns
-unfolding selection_of
-returns c event state id = has-ids_at state [] (selection_keys event) id
+returns c = record {
+  among = λ fields state id. has-each_once state (selection_keys fields) id;
+  once = λ fields state. once_each state (selection_keys fields);
+  in_order = λ fields state. in_order state (selection_keys fields);
+}

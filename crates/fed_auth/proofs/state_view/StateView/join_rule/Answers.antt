@@ -2,8 +2,8 @@ use Rattle.std.proofs.Common.{◌∙◌, ap, option_map, unwrap_or}
 use Rattle.fed_event.specs.Fields.{content_of}
 use Rattle.fed_auth.specs.declared.join_rule.JoinRule.TheVariants.{Invite}
 use Rattle.fed_auth.specs.JoinRule.{join_rule_in}
-use Rattle.fed_auth.specs.Room.{room_join_rule}
-use Rattle.fed_auth.proofs.room.Room.join_rule.Goals as goal
+use Rattle.fed_auth.specs.StateView.{room_join_rule}
+use Rattle.fed_auth.proofs.state_view.StateView.join_rule.Goals as goal
 
 pub returns-in-Some : goal.returns-in-Some
 unfolding room_join_rule

@@ -1,7 +1,7 @@
 use Rattle.std.proofs.Common.{ℕ, List, [], ◌∷◌, ◌++◌, cond, Option, Bor, option_map, bytes_eq, sym, ◌∙◌, ap}
 use Rattle.std.specs.List.{list_any}
 use Rattle.fed_auth.specs.Selection.{with_id}
-use Rattle.fed_auth.proofs.selected.add.Goals as goal
+use Rattle.fed_auth.proofs.selector.add.Goals as goal
 
 pub returns-then-contains : goal.returns-then-contains
 unfolding with_id

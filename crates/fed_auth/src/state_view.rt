@@ -1,12 +1,12 @@
 // What the state of a room says.
 ghost use Rattle.std.specs.Prelude.{◌≡◌, Some, option_map};
 ghost use Rattle.fed_json.specs.JsonRef.{seen};
-ghost use Rattle.fed_auth.specs.Room.{creator_in, is_first_join};
+ghost use Rattle.fed_auth.specs.StateView.{creator_in, is_first_join};
 
 use crate::event_rules::is_only;
 use crate::join_rule::JoinRule;
 use crate::levels::Levels;
-use crate::member_rules::MemberFacts;
+use crate::member_rules::{ActionLevels, Member, MemberFacts};
 use crate::membership::{Membership, authorising_user};
 use fed_event::Pdu;
 use fed_json::JsonRef;
@@ -14,17 +14,17 @@ use fed_room_contract::{Graph, State};
 
 // A state, and the graph that has the events that it names.
 #[derive(Clone, Copy)]
-pub(crate) struct Room<'a> {
+pub(crate) struct StateView<'a> {
     pub graph: &'a Graph,
     pub state: &'a State,
 }
 
-impl<'a> Room<'a> {
-    ghost use Rattle.fed_auth.specs.Room.{event_in, create_event, power_content, room_levels, membership_of, room_join_rule, is_authorised_in, facts_of};
-    ghost use Rattle.fed_auth.specs.RoomParts.{look_of};
+impl<'a> StateView<'a> {
+    ghost use Rattle.fed_auth.specs.StateView.{event_in, create_event, power_content, room_levels, membership_of, room_join_rule, is_authorised_in, member_of, facts_of};
+    ghost use Rattle.fed_auth.specs.StateViewParts.{look_of};
 
     // The event that the state names at this type and state key.
-    #[tactic(auto, unfolding(crate::specs::Room::event_in))]
+    #[tactic(auto, unfolding(crate::specs::StateView::event_in))]
     pub(crate) fn event(self, kind: &str, state_key: &str) -> Option<&'a Pdu>
         ensures { option_map (λ event. event.now) result ≡ look_of self.entry kind.now state_key.now }
     {
@@ -47,7 +47,7 @@ impl<'a> Room<'a> {
     }
 
     // The levels of users and events, where this is the create event.
-    #[tactic(auto, unfolding(crate::specs::Room::room_levels))]
+    #[tactic(auto, unfolding(crate::specs::StateView::room_levels))]
     pub(crate) fn levels(self, create: &'a Pdu) -> Levels<'a>
         requires { create_event (look_of self) ≡ Some create.now }
         ensures { result ≡ room_levels (look_of self.entry) }
@@ -74,7 +74,7 @@ impl<'a> Room<'a> {
     }
 
     // Whether the event names a user that is joined and has the level to invite.
-    #[tactic(auto, unfolding(crate::specs::Room::is_authorised_in))]
+    #[tactic(auto, unfolding(crate::specs::StateView::is_authorised_in))]
     fn is_authorised(self, levels: &Levels<'_>, event: &Pdu) -> bool
         ensures { result ≡ is_authorised_in (look_of self.entry) levels.now event.now }
     {
@@ -85,7 +85,7 @@ impl<'a> Room<'a> {
     }
 
     // What the rules on a member event look at, whose target is this user.
-    #[tactic(auto, unfolding(crate::specs::Room::facts_of))]
+    #[tactic(auto, unfolding(crate::specs::StateView::facts_of))]
     pub(crate) fn facts(
         self,
         levels: &Levels<'_>,
@@ -97,18 +97,27 @@ impl<'a> Room<'a> {
     {
         let sender = event.sender();
         MemberFacts {
-            sender: self.membership(sender),
-            target: self.membership(target),
+            sender: self.member(levels, sender),
+            target: self.member(levels, target),
             is_own: sender == target,
             is_first: is_first_join(create, event, target),
             is_authorised: self.is_authorised(levels, event),
             is_third_party: event.content().member("third_party_invite").is_some(),
             join_rule: self.join_rule(),
-            sender_level: levels.user(sender),
-            target_level: levels.user(target),
-            invite_level: levels.invite(),
-            kick_level: levels.kick(),
-            ban_level: levels.ban(),
+            needed: ActionLevels {
+                invite: levels.invite(),
+                kick: levels.kick(),
+                ban: levels.ban(),
+            },
+        }
+    }
+
+    fn member(self, levels: &Levels<'_>, user: &str) -> Member
+        ensures { result ≡ member_of (look_of self.entry) levels.now user.now }
+    {
+        Member {
+            membership: self.membership(user),
+            level: levels.user(user),
         }
     }
 }
@@ -121,7 +130,7 @@ fn creator(create: &Pdu) -> Option<&str>
 }
 
 // Whether the event follows the create event alone, and its target is the creator.
-#[tactic(auto, unfolding(crate::specs::Room::is_first_join))]
+#[tactic(auto, unfolding(crate::specs::StateView::is_first_join))]
 fn is_first_join(create: &Pdu, event: &Pdu, target: &str) -> bool
     ensures { result ≡ is_first_join create.now event.now target.now }
 {

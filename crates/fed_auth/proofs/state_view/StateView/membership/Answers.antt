@@ -2,8 +2,8 @@ use Rattle.std.proofs.Common.{◌∙◌, ap, option_map, unwrap_or}
 use Rattle.fed_event.specs.Fields.{content_of}
 use Rattle.fed_auth.specs.declared.membership.Membership.TheVariants.{Other}
 use Rattle.fed_auth.specs.Membership.{membership_in}
-use Rattle.fed_auth.specs.Room.{membership_of}
-use Rattle.fed_auth.proofs.room.Room.membership.Goals as goal
+use Rattle.fed_auth.specs.StateView.{membership_of}
+use Rattle.fed_auth.proofs.state_view.StateView.membership.Goals as goal
 
 pub returns-in-Some : goal.returns-in-Some
 unfolding membership_of

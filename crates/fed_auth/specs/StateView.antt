@@ -15,6 +15,7 @@ use Rattle.fed_auth.specs.declared.membership.Membership.TheVariants.{Other}
 use Rattle.fed_auth.specs.declared.join_rule.JoinRule.{JoinRule}
 use Rattle.fed_auth.specs.declared.join_rule.JoinRule.TheVariants.{Invite}
 use Rattle.fed_auth.specs.declared.member_rules.MemberFacts.{MemberFacts}
+use Rattle.fed_auth.specs.declared.member_rules.Member.{Member}
 use Rattle.fed_auth.specs.Levels.{LevelsGiven, user_level, invite_level, kick_level, ban_level}
 use Rattle.fed_auth.specs.Membership.{membership_in, is_joined}
 use Rattle.fed_auth.specs.JoinRule.{join_rule_in}
@@ -52,6 +53,10 @@ module _ (look : Look) where
   is_authorised_in levels event =
       holds (λ user. is_joined (membership_of user) && int_le (invite_level levels) (user_level levels user)) (authorising_user_of event)
 
+-- what the state says of a user
+abbrev pub member_of : Look → LevelsGiven → List ℕ → Member
+member_of look levels user = record { membership = membership_of look user; level = user_level levels user }
+
 -- the event follows the create event alone, and its target is the creator
 unfoldable pub is_first_join : Data → Data → List ℕ → Bool
 is_first_join create event target = is_only (event_id_of create) (prev_events_of event) && holds (bytes_eq target) (creator_in create)
@@ -59,16 +64,12 @@ is_first_join create event target = is_only (event_id_of create) (prev_events_of
 -- what the rules on a member event look at
 unfoldable pub facts_of : Look → LevelsGiven → Data → Data → List ℕ → MemberFacts
 facts_of look levels create event target = record {
-  sender = membership_of look (sender_of event);
-  target = membership_of look target;
+  sender = member_of look levels (sender_of event);
+  target = member_of look levels target;
   is_own = bytes_eq (sender_of event) target;
   is_first = is_first_join create event target;
   is_authorised = is_authorised_in look levels event;
   is_third_party = is_some (get (codes "third_party_invite") (content_of event));
   join_rule = room_join_rule look;
-  sender_level = user_level levels (sender_of event);
-  target_level = user_level levels target;
-  invite_level = invite_level levels;
-  kick_level = kick_level levels;
-  ban_level = ban_level levels;
+  needed = record { invite = invite_level levels; kick = kick_level levels; ban = ban_level levels };
 }

@@ -1,9 +1,0 @@
-use Rattle.std.proofs.Common.{◌≡◌}
-use Rattle.std.specs.List.{list_any}
-use Rattle.fed_event.specs.EventIds.{ids_left}
-use Rattle.fed_auth.specs.AuthState.{stored_of, is_rejected}
-use Rattle.fed_auth.proofs.auth_events.has_rejected.Given as goal
-
--- what is left decides
-abbrev pub invariant-loop-id : goal.invariant-loop-id
-invariant-loop-id l = list_any is_rejected (stored_of l.graph.stored (ids_left l.fn.ids)) ≡ list_any is_rejected (stored_of l.graph.stored (ids_left l.id-iterator))
