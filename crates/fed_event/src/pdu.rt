@@ -11,7 +11,7 @@ ghost use Rattle.fed_event.specs.Tests.{first_fault_of};
 use crate::fault::PduFault;
 use crate::validity::first_fault;
 use fed_json::{Json, JsonFault, MAX_LEVELS, NoMemory, read_within};
-use fed_redaction::{EventId, Texts, event_id_of_signed, hash_fits, redact};
+use fed_redaction::{EventId, Texts, covered_text, event_id_of_signed, hash_fits, redact};
 use std::alloc::Global;
 use std::marker::Model;
 
@@ -126,7 +126,7 @@ impl Pdu {
     {
         let json = redact(alloc, &self.json)?;
         let id = self.id.copy(alloc)?;
-        let hash_fits = hash_fits(&json, Texts::of(alloc, &json)?.covered());
+        let hash_fits = hash_fits(&json, &covered_text(alloc, &json)?);
         Ok(Pdu {
             json,
             id,

@@ -3,7 +3,7 @@ use Rattle.std.proofs.Common.{◌≡◌, ℕ, List, Bool, true, false, ◌&&◌,
 use Rattle.serde_json.specs.Data.{Data, null, boolean, number, string, array, object}
 use Rattle.serde_json.specs.Find.{as_object}
 use Rattle.std.specs.Prelude.{is_some}
-use Rattle.fed_redaction.specs.Names.{is_one_of, select, leave_out}
+use Rattle.fed_redaction.specs.Names.{is_one_of, leave_out}
 use Rattle.fed_redaction.specs.Redaction.{redacted}
 use Rattle.fed_redaction.specs.ContentHash.{uncovered_keys, covered_part}
 use Rattle.fed_redaction.specs.Laws.{AreUncovered}

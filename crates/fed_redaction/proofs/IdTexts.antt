@@ -1,5 +1,5 @@
 -- The form of an id: a SHA-256 has 32 bytes, and these are 43 characters of the alphabet.
-use Rattle.std.proofs.Common.{◌≡◌, ℕ, suc, ◌+◌, ◌*◌, ◌/◌, ◌%◌, ◌^◌, ◌<◌, zero, List, [], ◌∷◌, ◌++◌, Bool, true, false, true≢false, ◌&&◌, length, slice_index, refl, sym, ap, ◌∙◌, arith, append-nil}
+use Rattle.std.proofs.Common.{◌≡◌, ℕ, suc, ◌+◌, ◌*◌, ◌/◌, ◌%◌, ◌^◌, ◌<◌, zero, List, [], ◌∷◌, ◌++◌, Bool, true, false, true≢false, length, slice_index, refl, sym, ap, ◌∙◌, arith, append-nil}
 use Rattle.std.specs.Prelude.{nat_lt}
 use Rattle.std.specs.List.{list_all}
 use Rattle.std.specs.Int.{w32, to_be_bytes, byte_at}
@@ -8,7 +8,7 @@ use Rattle.std.proofs.lemmas.Nat.{mod_below}
 use Rattle.std.proofs.lemmas.List.Folds.{list_all-append, list_all_at}
 use Rattle.sha2.specs.Sha256.{sha256, digest_bytes}
 use Rattle.sha2.proofs.Facts256.{length-sha256}
-use Rattle.base64.specs.Rfc4648.{encode_symbols, encode_group, encode_two, encode_one}
+use Rattle.base64.specs.Rfc4648.{encode_symbols}
 use Rattle.base64.specs.Engines.{url_safe_no_pad}
 use Rattle.base64.proofs.RoundTrip.{length-encode_symbols}
 use Rattle.fed_redaction.specs.EventId.{is_url_safe, id_of_signed, IsIdText}

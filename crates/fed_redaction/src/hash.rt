@@ -1,11 +1,15 @@
 // The content hash of an event.
 ghost use Rattle.std.specs.Prelude.{◌≡◌, not, IfOk, string_bytes, option_map};
-ghost use Rattle.fed_redaction.specs.Names.{is_one_of};
+ghost use Rattle.serde_json.specs.Data.{object};
+ghost use Rattle.fed_json.specs.CanonicalText.{canonical_text};
+ghost use Rattle.fed_json.specs.Members.{members_left};
+ghost use Rattle.fed_redaction.specs.Names.{is_one_of, members_of};
+ghost use Rattle.fed_redaction.specs.TextsParts.{covered_members};
 ghost use Rattle.fed_redaction.specs.ContentHash.{uncovered_keys, covered_text_of, hash_of_covered, content_hash_of, given_hash_of, hash_fits_of};
 
-use crate::texts::Texts;
+use crate::object_text::ObjectText;
 use base64::engine::general_purpose::STANDARD_NO_PAD;
-use fed_json::{Json, NoMemory};
+use fed_json::{Json, Members, NoMemory, canonical};
 use sha2::{Digest, Sha256};
 use std::alloc::Global;
 
@@ -18,8 +22,33 @@ const HASH_LENGTH: usize = 43;
 pub fn content_hash(alloc: Global, event: &Json) -> Result<String, NoMemory>
     ensures { IfOk result (λ hash. string_bytes hash ≡ content_hash_of event.now) }
 {
-    let hash = Sha256::digest(Texts::of(alloc, event)?.covered());
+    let hash = Sha256::digest(&covered_text(alloc, event)?);
     STANDARD_NO_PAD.encode(alloc, &hash)
+}
+
+/// The text that the content hash of an event covers: its canonical text without `unsigned`, `signatures` and `hashes`. A value that is no
+/// object is written as it is.
+pub fn covered_text(alloc: Global, event: &Json) -> Result<Vec<u8>, NoMemory>
+    ensures { IfOk result (λ text. text.items ≡ covered_text_of event.now) }
+{
+    match event.members() {
+        Some(members) => covered_object(alloc, members),
+        None => canonical(alloc, event),
+    }
+}
+
+// What the content hash covers of an event of these members.
+fn covered_object(alloc: Global, members: Members<'_>) -> Result<Vec<u8>, NoMemory>
+    ensures { let covered = covered_members (members_of (members_left members.entry)) in
+        IfOk result (λ text. text.items ≡ canonical_text (object covered)) }
+{
+    let mut covered = ObjectText::begin(Vec::new(alloc))?;
+    for (name, value) in members {
+        if is_covered(name) {
+            covered.add(alloc, name, value)?;
+        }
+    }
+    covered.end()
 }
 
 /// Whether the hash that an event gives at `hashes.sha256` is its content hash, where `covered` is the text that the hash covers, for a

@@ -20,7 +20,7 @@ mod redaction;
 mod signed;
 mod texts;
 
-pub use hash::{content_hash, hash_fits};
+pub use hash::{content_hash, covered_text, hash_fits};
 pub use id::{EventId, event_id, event_id_of_signed};
 pub use laws::{
     ids_of_redactions, redacted_once, unsigned_changes, what_ids_are, what_is_signed,

@@ -1,5 +1,6 @@
 // The text of an object, written member by member.
 ghost use Rattle.std.specs.Prelude.{◌≡◌, ◌∷◌, [], ◌++◌, false, true, ◌≤◌, drop, length, IfOk, OnOk};
+ghost use Rattle.json.specs.Print.{quoted};
 ghost use Rattle.serde_json.specs.Data.{Members, member};
 ghost use Rattle.fed_json.specs.CanonicalText.{comma};
 ghost use Rattle.fed_json.specs.JsonRef.{seen};
@@ -24,6 +25,15 @@ impl ObjectText {
     {
         let mut text = room;
         text.clear();
+        ObjectText::behind(text)
+    }
+
+    // The beginning of an object behind a text.
+    pub(crate) fn behind(text: Vec<u8>) -> Result<ObjectText, NoMemory>
+        ensures text { IfOk result (λ object. object.text.items ≡ text.items ++ 123 ∷ []) }
+        ensures first { IfOk result (λ object. object.later ≡ false) }
+    {
+        let mut text = text;
         text.push(b'{')?;
         Ok(ObjectText { text, later: false })
     }
@@ -41,9 +51,18 @@ impl ObjectText {
     {
         self.separate()?;
         let start = self.text.len();
-        append_name(&mut self.text, false, name)?;
+        append_name(&mut self.text, name)?;
         value.append_to(alloc, &mut self.text)?;
         Ok(start)
+    }
+
+    // Writes the name of a member, whose value comes next.
+    pub(crate) fn name(&mut self, name: &str) -> Result<(), NoMemory>
+        ensures text { OnOk result (self.new.text.items ≡ self.old.text.items ++ (comma self.old.later ++ (quoted name.now ++ 58 ∷ []))) }
+        ensures later { OnOk result (self.new.later ≡ true) }
+    {
+        self.separate()?;
+        append_name(&mut self.text, name)
     }
 
     // The text from a place on.

@@ -1,20 +1,18 @@
 // The texts of an event.
-ghost use Rattle.std.specs.Prelude.{◌≡◌, map, codes, IfOk, OnOk};
+ghost use Rattle.std.specs.Prelude.{◌≡◌, map, IfOk, OnOk};
 ghost use Rattle.serde_json.specs.Data.{Data, object, Members as MemberList, member as first};
 ghost use Rattle.fed_json.specs.CanonicalText.{canonical_text};
 ghost use Rattle.fed_json.specs.JsonRef.{seen};
 ghost use Rattle.fed_json.specs.Members.{members_left};
 ghost use Rattle.fed_redaction.specs.Names.{members_of};
-ghost use Rattle.fed_redaction.specs.Redaction.{kept_content};
 ghost use Rattle.fed_redaction.specs.Texts.{no_texts, event_texts};
 ghost use Rattle.fed_redaction.specs.TextsParts.{member_text, completed, covered_members, signed_members};
 
 use crate::hash::is_covered;
 use crate::kept::{content_keys, is_signed};
-use crate::names::append_name;
 use crate::object_text::ObjectText;
 use crate::redaction::event_type;
-use crate::signed::append_content;
+use crate::signed::add_content;
 use fed_json::{Json, JsonRef, Members, NoMemory, canonical};
 use std::alloc::Global;
 use std::marker::Model;
@@ -162,27 +160,10 @@ fn signed_with(
         return Ok(());
     }
     if name == "content" {
-        signed_with_content(alloc, signed, value, keys)
+        add_content(alloc, signed, value, keys)
     } else {
         signed.copy(member)
     }
-}
-
-// Writes the content with these keys alone.
-fn signed_with_content(
-    alloc: Global,
-    signed: &mut ObjectText,
-    content: JsonRef<'_>,
-    keys: &[&str],
-) -> Result<(), NoMemory>
-    ensures { let kept = kept_content (map (λ key. key.now) keys.now) (seen content.entry) in
-        OnOk result ((rest : MemberList) → completed signed.new rest
-        ≡ completed signed.old (first (codes "content") kept rest)) }
-{
-    append_name(&mut signed.text, signed.later, "content")?;
-    signed.later = true;
-    append_content(alloc, &mut signed.text, content, keys)?;
-    Ok(())
 }
 
 // The texts of a value that is no object.

@@ -1,12 +1,16 @@
-use Rattle.std.proofs.Common.{◌++◌, map, sym, ap, ◌∙◌}
-use Rattle.std.proofs.lemmas.Result.{on_ok_weaker}
+use Rattle.std.proofs.Common.{ℕ, ◌++◌, Vec, Global, map, sym, ap, ◌∙◌}
+use Rattle.serde_json.specs.Data.{object}
 use Rattle.fed_json.specs.CanonicalText.{canonical_text}
 use Rattle.fed_json.specs.JsonRef.{seen}
 use Rattle.fed_json.specs.Members.{members_left}
+use Rattle.fed_redaction.specs.Names.{is_one_of, select, members_of}
 use Rattle.fed_redaction.proofs.Parts.{kept_content-members}
 use Rattle.fed_redaction.proofs.signed.append_content.Goals as goal
 
-pub returns-in-Some : goal.returns-in-Some
-returns-in-Some c =
-    let same = kept_content-members (map (λ key. key.now) c.args.keys.now) (seen c.args.content) (members_left c.in-Some.members) (sym c.in-Some.ensures) in
-    on_ok_weaker c.append_kept.result (λ h. h ∙ ap (λ kept. c.args.text.now.items ++ canonical_text kept) (sym same)) c.append_kept.ensures
+pub returns-in_ok-text-in-Some : goal.returns-in_ok-text-in-Some
+returns-in_ok-text-in-Some c =
+    let keys = map (λ key. key.now) c.args.keys.now in
+    let kept = object (select (is_one_of keys) (members_of (members_left c.in-Some.members))) in
+    let same = kept_content-members keys (seen c.args.content) (members_left c.in-Some.members) (sym c.in-Some.ensures) in
+    let taken = ap (λ (v : Vec ℕ Global). v.items) c.in_ok-try_take-in-Some.ensures.value in
+    c.in_ok-text-in-Some.ensures ∙ ap (λ text. text ++ canonical_text kept) taken ∙ ap (λ d. c.args.text.now.items ++ canonical_text d) (sym same)
