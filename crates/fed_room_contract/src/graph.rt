@@ -147,9 +147,9 @@ impl Graph {
         ensures ok { OnOk result (self.new ≡ with_room self.old id.now) }
         ensures err { OnErr result (self.new ≡ self.old) }
     {
-        let reserved = id.copy(alloc)?;
-        self.places.make_room(alloc, id.as_str())?;
         self.events.reserve(1)?;
+        let reserved = id.copy(alloc)?;
+        self.places.make_room(alloc, id, self.reserved.as_ref())?;
         self.reserved = Some(reserved);
         Ok(())
     }

@@ -3,7 +3,7 @@ use Rattle.std.specs.FinMap as finite
 use Rattle.fed_json.specs.TextMap.{text_map}
 use Rattle.fed_json.proofs.TextMaps.{contains_key-text_map, text_map-insert}
 use Rattle.fed_room_contract.specs.Places.{PlaceMap, with_room_for}
-use Rattle.fed_room_contract.proofs.places.Places.make_room.Goals as goal
+use Rattle.fed_room_contract.proofs.places.Places.add_room.Goals as goal
 
 abbrev seen : Option ℕ → Option ℕ
 seen place = place
