@@ -25,13 +25,6 @@ no_place places id q absent = ap place_in (finite.get-insert nat_list_cmp_total 
     by true t = sym (ap place_in (sym (finite.get_tied nat_list_cmp_total places q id (tied _ t)) ∙ is_none _ absent))
     by false t = refl
 
-stays_named : (places : PlaceMap) (id q : List ℕ) → IsSome (finite.get places q) → IsSome (finite.get (finite.insert places id None) q)
-stays_named places id q h = subst IsSome (sym (finite.get-insert nat_list_cmp_total places id None q)) (by (eq_by_cmp order q id))
-  where
-    by : (b : Bool) → IsSome (cond b (Some None) (finite.get places q))
-    by true = refl
-    by false = h
-
 -- room changes no place
 pub place_at-room : (places : PlaceMap) (id q : List ℕ) → place_at (with_room_for places id) q ≡ place_at places q
 place_at-room places id q = by (finite.contains_key places id) refl
@@ -39,10 +32,6 @@ place_at-room places id q = by (finite.contains_key places id) refl
     by : (b : Bool) → finite.contains_key places id ≡ b → place_at (if finite.contains_key places id then places else finite.insert places id None) q ≡ place_at places q
     by true t = ap (λ b. place_at (if b then places else finite.insert places id None) q) t
     by false t = ap (λ b. place_at (if b then places else finite.insert places id None) q) t ∙ no_place places id q t
-
-pub room_stays : (places : PlaceMap) (id q : List ℕ) → IsSome (finite.get places q) → IsSome (finite.get (with_room_for places id) q)
-room_stays places id q h =
-    elim (finite.contains_key places id) as (λ b. IsSome (finite.get (if b then places else finite.insert places id None) q)) [ true ↦ h | false ↦ stays_named places id q h ]
 
 pub room_is_made : (places : PlaceMap) (id : List ℕ) → IsSome (finite.get (with_room_for places id) id)
 room_is_made places id = by (finite.contains_key places id) refl

@@ -134,7 +134,7 @@ impl Graph {
         ensures err { OnErr result (self.new ≡ self.old) }
     {
         self.reserve(alloc, event.event().id())?;
-        self.push_reserved(event, verdict);
+        drop(self.push_reserved(event, verdict));
         Ok(())
     }
 
@@ -154,17 +154,21 @@ impl Graph {
         Ok(())
     }
 
-    /// Stores an event that is ready and that room was made for. It takes no memory.
-    pub fn push_reserved(&mut self, event: Checked, verdict: Verdict)
+    /// Stores an event that is ready and that room was made for, and gives its id. It takes no memory.
+    pub fn push_reserved(&mut self, event: Checked, verdict: Verdict) -> EventId
         requires reserved { self.old.reserved ≡ Some (event_id_of event.event) }
         requires new { is_stored self.old.stored (event_id_of event.event) ≡ false }
         requires ready { is_ready_in self.old.stored event.event ≡ true }
-        ensures { self.new ≡ with_event self.old (record { event = event; verdict = verdict }) }
+        ensures id { result ≡ event_id_of event.event }
+        ensures stored { self.new ≡ with_event self.old (record { event = event; verdict = verdict }) }
     {
         let place = self.events.len();
         self.places.enter(event.event().id().as_str(), place);
         self.events.push(Stored { event, verdict }).unwrap();
-        self.reserved = None;
+        match self.reserved.take() {
+            Some(id) => id,
+            None => unreachable!(),
+        }
     }
 
     // Whether the events of all these ids are stored.

@@ -1,4 +1,4 @@
-use Rattle.std.proofs.Common.{◌≡◌, ◌∙◌, ℕ, List, ◌++◌, ◌∷◌, [], Option, None, Some, Bool, true, false, cond, nat_cmp, length, arith, is_ok, if◌then◌else◌, refl, sym, ap, subst}
+use Rattle.std.proofs.Common.{◌≡◌, ◌∙◌, ℕ, List, ◌++◌, ◌∷◌, [], Option, None, Some, IsSome, IfSome, vec_len, vec_capacity, ◌<◌, Bool, true, false, cond, nat_cmp, length, arith, is_ok, if◌then◌else◌, refl, sym, ap, subst}
 use Rattle.std.specs.FinMap as finite
 use Rattle.std.specs.List.{position}
 use Rattle.std.specs.Ordering.{eq_by_cmp}
@@ -36,7 +36,7 @@ invariant_of-self c =
     record {
       graph = subst IsGraph (sym items) (graph_grows xs last c.self.invariant.graph next);
       entered = λ q. ap (λ (m : PlaceMap). place_at m q) places ∙ entered_more old.places xs last c.self.invariant.entered next.new q ∙ ap (position (has_id q)) (sym items);
-      spare = tt;
-      named = tt;
+      spare = subst (λ (o : Option (List ℕ)). IfSome o (λ _. vec_len c.push.new.self < vec_capacity c.push.new.self)) (sym c.take.ensures.after) tt;
+      named = subst (λ (o : Option (List ℕ)). IfSome o (λ id. IsSome (finite.get c.enter.new.self id))) (sym c.take.ensures.after) tt;
       once = λ q h. absurd (entered_once old.places (id_of last) q (length xs) old.reserved (ap (λ (g : GraphState). g.reserved) c.self.view_is ∙ c.requires.reserved) c.self.invariant.once (ap (λ (m : PlaceMap). finite.get m q) (sym places) ∙ h));
     }

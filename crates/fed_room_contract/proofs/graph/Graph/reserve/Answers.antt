@@ -1,8 +1,7 @@
-use Rattle.std.proofs.Common.{◌≡◌, ◌<◌, ◌≤◌, ◌∙◌, ℕ, List, Option, None, Some, IsSome, IfSome, option_map, vec_len, vec_capacity, refl, sym, ap, subst, arith}
+use Rattle.std.proofs.Common.{◌≡◌, ◌<◌, ◌≤◌, ◌∙◌, ℕ, List, Option, None, Some, IsSome, IfSome, vec_len, vec_capacity, refl, sym, ap, subst, arith}
 use Rattle.std.specs.FinMap as finite
 use Rattle.std.specs.List.{position}
 use Rattle.fed_room_contract.specs.Places.{PlaceMap, place_at, with_room_in_place_of}
-use Rattle.fed_room_contract.specs.declared.graph.Stored.{Stored}
 use Rattle.fed_room_contract.specs.declared.graph.Graph.TheInside.{Inside}
 use Rattle.fed_room_contract.specs.Graph.{IsGraph, has_id}
 use Rattle.fed_room_contract.specs.GraphParts.{HoldsTogether}
