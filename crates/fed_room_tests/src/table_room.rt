@@ -87,7 +87,8 @@ fn three_in_turn<R: RoomEngine>(alloc: Global, room: &mut R) -> Result<(), Fail>
     for event in [third, second, first] {
         let _ = receive(alloc, room, event)?;
     }
-    Ok(advance_all(alloc, room)?)
+    let _ = advance_all(alloc, room)?;
+    Ok(())
 }
 
 fn draft(alloc: Global, sender: &str) -> Result<Draft, AllocError> {
@@ -167,8 +168,7 @@ fn a_draft_is_stored(rt: HostRuntime) -> Result<(), Fail> {
     let alloc = rt.alloc();
     let mut room = room(alloc, &event(alloc, "")?)?;
     let id = send(alloc, &mut room, "@u:a")?;
-    let extremities = room.extremities(alloc)?;
-    assert_eq!(rt; extremities.as_slice(), [id].as_slice());
+    assert_eq!(rt; room.extremities(), [id].as_slice());
     let fields = first_fields(alloc, &room)?;
     assert_eq!(rt;
         fields.as_slice(),
@@ -190,10 +190,12 @@ fn a_draft_of_another_server(rt: HostRuntime) -> Result<(), Fail> {
 #[test]
 fn states_of_the_table(rt: HostRuntime) -> Result<(), Fail> {
     let alloc = rt.alloc();
-    let event = event(alloc, "")?;
-    let id = event.event().id().copy(alloc)?;
-    let mut room = room(alloc, &event)?;
-    let _ = receive(alloc, &mut room, event)?;
+    let first = event(alloc, "")?;
+    let second = following(alloc, &first)?;
+    let id = second.event().id().copy(alloc)?;
+    let mut room = room(alloc, &second)?;
+    let _ = receive(alloc, &mut room, first)?;
+    let _ = receive(alloc, &mut room, second)?;
     let now = room.current(alloc)?;
     assert!(rt; has(&now, "m.now"));
     let before = room.state_before(alloc, id.as_str())?.ok_or("not stored")?;
