@@ -1,3 +1,3 @@
 pub mod Made
-pub mod Apart
 pub mod Allowing
+pub mod Laid

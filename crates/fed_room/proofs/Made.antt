@@ -1,5 +1,5 @@
 -- What is sealed of a draft.
-use Rattle.std.proofs.Common.{◌≡◌, ◌<◌, ◌≤◌, ℕ, List, [], ◌∷◌, ◌++◌, max, Bool, true, false, ◌&&◌, cond, if◌then◌else◌, Ordering, Less, Equal, Greater, nat_cmp, find, Option, Some, None, Err, arith, codes, refl, ap, ◌∙◌, subst}
+use Rattle.std.proofs.Common.{◌≡◌, ◌<◌, ◌≤◌, ℕ, List, [], ◌∷◌, ◌++◌, max, Bool, true, false, ◌&&◌, cond, if◌then◌else◌, Ordering, Less, Equal, Greater, nat_cmp, find, Option, Some, None, Err, arith, codes, refl, sym, ap, ◌∙◌, subst}
 use Rattle.std.proofs.Math.Nat.{le_trans, le-max_left, le-max_right}
 use Rattle.std.proofs.lemmas.Bool.{lt-ltb}
 use Rattle.std.proofs.lemmas.Slice.Eq.{bytes_eq-Decides}
@@ -17,10 +17,11 @@ use Rattle.fed_event.specs.Sealing.{IsSentBy, sealed_of}
 use Rattle.fed_event.specs.Tests.{fails, first_fault_of, missing_tests, kind_tests, length_tests, count_tests}
 use Rattle.fed_room_contract.specs.declared.refusal.Refusal.TheVariants.{NotOwnUser, BadDraft}
 use Rattle.fed_room_contract.specs.declared.graph.Stored.{Stored}
-use Rattle.fed_room_contract.specs.Draft.{DraftFields}
+use Rattle.fed_room_contract.specs.Draft.{DraftFields, Bears}
 use Rattle.fed_room_contract.specs.Graph.{is_stored, named_by, is_ready}
 use Rattle.fed_room_contract.specs.Prepared.{Signer, is_own_user, sealed_by}
 use Rattle.fed_room.specs.Parts.{fields_of, with_state_key, parts_of}
+use Rattle.fed_room.specs.Lawful.{whole}
 use Rattle.fed_room.specs.Made.{if_passes, made_of}
 
 -- ---- a member of an object is less deep
@@ -70,7 +71,7 @@ too_deep : (event : Data) → 100 < depth event → first_fault_of event ≡ Som
 unfolding first_fault_of
 too_deep event h = found_first (fails event) TooDeep later_tests (lt-ltb 100 (depth event) h)
 
-pub made-deep : (signer : Signer) (draft : DraftFields) → is_own_user signer draft.sender ≡ true → 100 < depth draft.content → made_of signer draft ≡ Err (BadDraft TooDeep)
+pub made-deep : (signer : Signer) (draft : DraftFields) → is_own_user signer.name draft.sender ≡ true → 100 < depth draft.content → made_of signer draft ≡ Err (BadDraft TooDeep)
 made-deep signer draft own h =
     let event = sealed_by signer (parts_of draft) in
     let within = depth-get (codes "content") event draft.content (content-sealed signer.name signer.key signer.sign draft draft.state_key) in
@@ -81,14 +82,28 @@ second : (a b : Bool) → (a && b) ≡ true → b ≡ true
 second true b h = h
 second false b h = absurd (cc)
 
-pub sent_by_own : (signer : Signer) (draft : DraftFields) → is_own_user signer draft.sender ≡ true → IsSentBy signer.name (parts_of draft)
+pub sent_by_own : (signer : Signer) (draft : DraftFields) → is_own_user signer.name draft.sender ≡ true → IsSentBy signer.name (parts_of draft)
 sent_by_own signer draft own =
     sent_by signer.name draft draft.state_key ((bytes_eq-Decides (domain_of draft.sender) signer.name).0 (second (is_user_id draft.sender) _ own))
 
 -- ---- it is ready wherever it is stored
 
-pub ready-sealed : (signer : Signer) (draft : DraftFields) (events : List Stored) → is_ready events (sealed_by signer (parts_of draft)) ≡ true
-ready-sealed signer draft events = ap (list_all (is_stored events)) (nothing_named signer.name signer.key signer.sign draft draft.state_key)
+pub ready-sealed : (server key : List ℕ) (sign : List ℕ → List ℕ) (draft : DraftFields) (parts event : Data) → parts ≡ parts_of draft → event ≡ sealed_of server key sign parts
+    → (events : List Stored) → is_ready events event ≡ true
+ready-sealed server key sign draft parts event made same events =
+    ap (is_ready events) (same ∙ ap (sealed_of server key sign) made) ∙ ap (list_all (is_stored events)) (nothing_named server key sign draft draft.state_key)
+
+-- ---- it has the fields of the draft
+
+bear-sealed : (server key : List ℕ) (sign : List ℕ → List ℕ) (draft : DraftFields) (state_key : Option (List ℕ)) → draft.at_ms ≤ 9007199254740991 → state_key ≡ draft.state_key
+    → Bears draft (sealed server key sign draft state_key)
+bear-sealed server key sign draft None h e = record { room = refl; sender = refl; kind = refl; state_key = e; content = refl; at_ms = whole draft.at_ms h }
+bear-sealed server key sign draft (Some k) h e = record { room = refl; sender = refl; kind = refl; state_key = e; content = refl; at_ms = whole draft.at_ms h }
+
+pub sealed_bears : (server key : List ℕ) (sign : List ℕ → List ℕ) (draft : DraftFields) (parts event : Data) → draft.at_ms ≤ 9007199254740991 → parts ≡ parts_of draft
+    → event ≡ sealed_of server key sign parts → Bears draft event
+sealed_bears server key sign draft parts event h made same =
+    subst (Bears draft) (sym (same ∙ ap (sealed_of server key sign) made)) (bear-sealed server key sign draft draft.state_key h refl)
 
 -- ---- a member more
 

@@ -2,4 +2,4 @@ pub mod Table
 pub mod Parts
 pub mod Made
 pub mod TableRoom
-pub mod Bearing
+pub mod Lawful

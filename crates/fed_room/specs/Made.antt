@@ -18,6 +18,6 @@ module _ (signer : Signer) where
 
   abbrev pub made_of : DraftFields → Result CheckedEvent Refusal
   made_of draft =
-      if is_own_user signer draft.sender
+      if is_own_user signer.name draft.sender
       then if_passes (sealed_by signer (parts_of draft)) (first_fault_of (sealed_by signer (parts_of draft)))
       else Err NotOwnUser

@@ -1,5 +1,11 @@
 -- Verdicts on events and the states before them, by the ids of the events, and a current state.
-use Rattle.std.specs.Prelude.{ℕ, List, Option, Some, None, refl}
+use Rattle.std.specs.Prelude.{ℕ, List, Bool, Option, Some, None, filter, refl}
+use Rattle.std.specs.List.{list_any}
+use Rattle.std.specs.Str.{bytes_eq}
+use Rattle.serde_json.specs.Data.{Data}
+use Rattle.fed_event.specs.EventId.{event_id_of}
+use Rattle.fed_room_contract.specs.declared.graph.Stored.{Stored}
+use Rattle.fed_room_contract.specs.Graph.{is_stored, named_by}
 use Rattle.std.specs.Coded.{Coded, code_by, coded×}
 use Rattle.std.specs.FinMap as finite
 use Rattle.fed_json.specs.TextMap.{TextMap, text_map_code}
@@ -24,16 +30,28 @@ abbrev pub verdict_in : Option Row → Verdict
 verdict_in None = Accepted
 verdict_in (Some row) = row.verdict
 
--- nothing holds before it
-abbrev pub before_in : Option Row → StateMap
-before_in None = finite.empty
-before_in (Some row) = row.before
-
 abbrev pub verdict_at : TableState → List ℕ → Verdict
 verdict_at table id = verdict_in (finite.get table.rows id)
 
-abbrev pub before_at : TableState → List ℕ → StateMap
-before_at table id = before_in (finite.get table.rows id)
+-- the entries of a state that name events of such ids
+abbrev pub keeping : (List ℕ → Bool) → StateMap → StateMap
+keeping passes state = finite.from_entries (filter (λ e. passes e.1) (finite.entries state))
+
+-- the event names the event of this id
+abbrev pub is_named : Data → List ℕ → Bool
+is_named event id = list_any (λ named. bytes_eq named id) (named_by event)
+
+-- nothing holds before an event without a row; else what the row has of events that the event names
+abbrev pub before_in : Option Row → Data → StateMap
+before_in None event = finite.empty
+before_in (Some row) event = keeping (is_named event) row.before
+
+abbrev pub before_at : TableState → Data → StateMap
+before_at table event = before_in (finite.get table.rows (event_id_of event)) event
+
+-- what the current state has of stored events
+abbrev pub current_at : TableState → List Stored → StateMap
+current_at table events = keeping (is_stored events) table.current
 
 -- with this row for the event, in the place of the one that was there
 abbrev pub with_row : TableState → List ℕ → Row → TableState

@@ -1,10 +1,14 @@
 // The event that is made of a draft.
-ghost use Rattle.std.specs.Prelude.{◌≡◌, ◌≢◌, ◌<◌, ◌≤◌, Ok, Err, IfOk, IfErr, OnOk, string_bytes, option_map};
+ghost use Rattle.std.specs.Prelude.{◌≡◌, ◌<◌, ◌⊎◌, List, true, false, Err, IfOk, OnOk, string_bytes, option_map};
 ghost use Rattle.serde_json.specs.Data.{depth};
 ghost use Rattle.serde_json.specs.Read.{max_depth};
 ghost use Rattle.fed_json.specs.Editing.{with_member};
-ghost use Rattle.fed_room_contract.specs.declared.refusal.Refusal.TheVariants.{Memory};
-ghost use Rattle.fed_room_contract.specs.Prepared.{signer_of, is_own_user, sealed_by};
+ghost use Rattle.fed_room_contract.specs.declared.refusal.Refusal.TheVariants.{Memory, NotOwnUser, BadDraft};
+ghost use Rattle.fed_event.specs.declared.fault.PduFault.TheVariants.{TooDeep};
+ghost use Rattle.fed_room_contract.specs.declared.graph.Stored.{Stored};
+ghost use Rattle.fed_room_contract.specs.Graph.{is_ready};
+ghost use Rattle.fed_room_contract.specs.Draft.{Bears};
+ghost use Rattle.fed_room_contract.specs.Prepared.{signer_of, is_own_user};
 ghost use Rattle.fed_room.specs.Parts.{with_state_key, parts_of};
 ghost use Rattle.fed_room.specs.Made.{made_of};
 
@@ -18,14 +22,14 @@ use std::alloc::Global;
 /// # Errors
 ///
 /// `NotOwnUser` where the sender is no user of the own server; else `BadDraft` where what is made is no event, with its fault.
-/// `Memory` where memory ran out.
+/// `Memory` where memory ran out, in place of an event or a fault other than of a content that nests too deep.
 pub(crate) fn made<K: Keys>(alloc: Global, draft: Draft, keys: &K) -> Result<Checked, Refusal>
-    ensures ok { let signer = signer_of (K.own_name keys.now) (K.own_key keys.now) (K.own_signature keys.now) (K.checks keys.now) in
-        IfOk result (λ event. made_of signer draft ≡ Ok event) }
-    ensures sealed { let signer = signer_of (K.own_name keys.now) (K.own_key keys.now) (K.own_signature keys.now) (K.checks keys.now) in
-        IfOk result (λ event. event.event ≡ sealed_by signer (parts_of draft)) }
-    ensures fault { let signer = signer_of (K.own_name keys.now) (K.own_key keys.now) (K.own_signature keys.now) (K.checks keys.now) in
-        IfErr result (λ e. e ≢ Memory → made_of signer draft ≡ Err e) }
+    ensures told { let signer = signer_of (K.own_name keys.now) (K.own_key keys.now) (K.own_signature keys.now) (K.checks keys.now) in
+        (result ≡ made_of signer draft) ⊎ (result ≡ Err Memory) }
+    ensures foreign { is_own_user (K.own_name keys.now) draft.sender ≡ false → result ≡ Err NotOwnUser }
+    ensures deep { is_own_user (K.own_name keys.now) draft.sender ≡ true → MAX_DEPTH < depth draft.content → result ≡ Err (BadDraft TooDeep) }
+    ensures bears { IfOk result (λ event. Bears draft event.event) }
+    ensures ready { IfOk result (λ event. (events : List Stored) → is_ready events event.event ≡ true) }
 {
     if !is_own_user(&draft.sender, keys) {
         return Err(Refusal::NotOwnUser);
@@ -34,16 +38,12 @@ pub(crate) fn made<K: Keys>(alloc: Global, draft: Draft, keys: &K) -> Result<Che
         return Err(Refusal::BadDraft(PduFault::TooDeep));
     }
     let parts = parts(alloc, draft)?;
-    match seal(alloc, parts, keys) {
-        Ok(event) => Ok(event),
-        Err(PduFault::Memory) => Err(Refusal::Memory),
-        Err(fault) => Err(Refusal::BadDraft(fault)),
-    }
+    Ok(seal(alloc, parts, keys)?)
 }
 
 // Whether the sender is a user of the own server.
 fn is_own_user<K: Keys>(sender: &str, keys: &K) -> bool
-    ensures { result ≡ is_own_user (signer_of (K.own_name keys.now) (K.own_key keys.now) (K.own_signature keys.now) (K.checks keys.now)) sender.now }
+    ensures { result ≡ is_own_user (K.own_name keys.now) sender.now }
 {
     is_user_id(sender) && domain(sender) == keys.own()
 }

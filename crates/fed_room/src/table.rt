@@ -1,10 +1,15 @@
 // Verdicts and states that are given beforehand.
 ghost use Rattle.std.specs.Prelude.{◌≡◌, IfOk, OnOk, OnErr};
 ghost use Rattle.std.specs.FinMap as finite;
-ghost use Rattle.fed_room.specs.Table.{with_row, verdict_at, before_at};
+ghost use Rattle.fed_room.specs.Table.{with_row, verdict_at, before_at, current_at, is_named, keeping};
+ghost use Rattle.std.specs.List.{list_any};
+ghost use Rattle.std.specs.Str.{bytes_eq};
+ghost use Rattle.fed_event.specs.EventIds.{ids_left};
 
+use crate::entries::state_of;
+use fed_event::{EventIds, Pdu};
 use fed_json::NoMemory;
-use fed_room_contract::{State, Verdict};
+use fed_room_contract::{Graph, State, Verdict};
 use std::alloc::Global;
 use std::collections::BTreeMap;
 use std::marker::Model;
@@ -17,7 +22,8 @@ pub struct Row {
 }
 
 /// A verdict and a state for each event id that has a row, and the current state. An event without a row is accepted, and nothing
-/// holds before it.
+/// holds before it. Since a room's states name stored events alone, of the state before an event the entries count that name events
+/// which the event names itself, and of the current state those that name stored ones.
 ///
 /// Contracts see it as the finite map of its rows, and the current state.
 #[derive(Drop)]
@@ -78,20 +84,49 @@ impl Table {
         }
     }
 
-    /// The state before the event of this id.
-    pub fn state_before(&self, alloc: Global, id: &str) -> Result<State, NoMemory>
-        ensures { IfOk result (λ state. state ≡ before_at self.now id.now) }
+    /// The state before an event: what its row has of it, as far as it names events that the event names.
+    pub fn state_before(&self, alloc: Global, event: &Pdu) -> Result<State, NoMemory>
+        ensures { IfOk result (λ state. state ≡ before_at self.now event.now) }
     {
-        match self.rows.get(id) {
-            Some(row) => row.before.copy(alloc),
+        match self.rows.get(event.id().as_str()) {
+            Some(row) => named(alloc, &row.before, event),
             None => Ok(State::new(alloc)),
         }
     }
 
-    /// The current state.
-    pub fn current(&self, alloc: Global) -> Result<State, NoMemory>
-        ensures { IfOk result (λ state. state ≡ self.now.current) }
+    /// The current state, as far as it names events that are stored.
+    pub fn current(&self, alloc: Global, graph: &Graph) -> Result<State, NoMemory>
+        ensures { IfOk result (λ state. state ≡ current_at self.now graph.now.stored) }
     {
-        self.current.copy(alloc)
+        let mut entries = self.current.entries(alloc)?;
+        entries.retain(|entry| graph.contains(entry.id.as_str()));
+        state_of(alloc, entries)
     }
+}
+
+// What a state has of events that an event names.
+fn named(alloc: Global, state: &State, event: &Pdu) -> Result<State, NoMemory>
+    ensures { IfOk result (λ kept. kept ≡ keeping (is_named event.now) state.now) }
+{
+    let mut entries = state.entries(alloc)?;
+    entries.retain(|entry| names(event, entry.id.as_str()));
+    state_of(alloc, entries)
+}
+
+// Whether an event names the event of this id.
+fn names(event: &Pdu, id: &str) -> bool
+    ensures { result ≡ is_named event.now id.now }
+{
+    has(event.prev_events(), id) || has(event.auth_events(), id)
+}
+
+fn has(ids: EventIds<'_>, id: &str) -> bool
+    ensures { result ≡ list_any (λ named. bytes_eq named id.now) (ids_left ids.entry) }
+{
+    for named in ids {
+        if named == id {
+            return true;
+        }
+    }
+    false
 }

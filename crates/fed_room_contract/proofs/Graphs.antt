@@ -26,7 +26,7 @@ tail [] = []
 tail (x ∷ xs) = xs
 
 -- the events with one more, split at some event: it is the last one, or stands among those before
-split : (xs : List Stored) (last : Stored) (before : List Stored) (next : Stored) (after : List Stored) → xs ++ last ∷ [] ≡ before ++ next ∷ after
+pub split : (xs : List Stored) (last : Stored) (before : List Stored) (next : Stored) (after : List Stored) → xs ++ last ∷ [] ≡ before ++ next ∷ after
     → ((before ≡ xs) × (next ≡ last)) ⊎ ((rest : List Stored) × (xs ≡ before ++ next ∷ rest))
 split [] last [] next after e = inl (refl, cc)
 split [] last (b ∷ before) next after e = by before (ap tail e)

@@ -5,3 +5,7 @@ pub mod Positions
 pub mod Graphs
 pub mod PlaceMaps
 pub mod Rooms
+pub mod Apart
+pub mod Extremities
+pub mod Stores
+pub mod WellFormed

@@ -1,5 +1,5 @@
 -- Rooms that grow.
-use Rattle.std.proofs.Common.{◌≡◌, ℕ, zero, suc, ◌<◌, ◌≤◌, List, [], ◌∷◌, ◌++◌, append_assoc, length, replicate, Bool, true, false, not, cond, if◌then◌else◌, Option, None, Some, is_some, option_map, refl, sym, ap, ◌∙◌, subst, arith}
+use Rattle.std.proofs.Common.{◌≡◌, ℕ, zero, suc, ◌<◌, ◌≤◌, List, [], ◌∷◌, ◌++◌, append_assoc, length, replicate, Bool, true, false, not, cond, if◌then◌else◌, Option, None, Some, is_some, option_map, refl, sym, ap, ◌∙◌, subst, arith, length-append}
 use Rattle.std.proofs.lemmas.List.{append-nil}
 use Rattle.std.proofs.lemmas.Slice.Eq.{bytes_eq-Decides}
 use Rattle.std.specs.List.{find}
@@ -70,7 +70,7 @@ stored_is_ready xs id s graph h =
 
 -- ---- an event that is stored waits no longer
 
-fewer : (id : List ℕ) (xs : List CheckedEvent) → length (without id xs) ≤ length xs
+pub fewer : (id : List ℕ) (xs : List CheckedEvent) → length (without id xs) ≤ length xs
 fewer id [] = omega arith
 fewer id (x ∷ xs) = let rest = fewer id xs in elim (not (is_of_id id x)) as (λ b. length (cond b (x ∷ without id xs) (without id xs)) ≤ length (x ∷ xs)) [ true ↦ omega arith | false ↦ omega arith ]
 
@@ -116,3 +116,10 @@ waits_less told rules room new e h = subst (λ (r : RoomState). length r.waiting
     by : (o : Option CheckedEvent) → first_ready room ≡ o → is_some (option_map told o) ≡ true → length (advanced rules room).waiting < length room.waiting
     by (Some event) f t = advanced_waits_less rules room event f
     by None f t = absurd (cc)
+
+pub advanced_grows : (rules : Rules) (old new : RoomState) → IsAdvanced rules old new → length old.stored ≤ length new.stored
+advanced_grows rules old new h =
+    let grown = room_grows rules old (replicate h.times advance) in
+    let more = length-append old.stored grown.0 in
+    let len = ap (λ (r : RoomState). length r.stored) h.after ∙ ap (λ (xs : List Stored). length xs) grown.1 in
+    omega arith

@@ -34,6 +34,22 @@ text_map-updates seen m n bs w old new updates =
     ∙ ap (cond (eq_by_cmp (slice_cmp nat_cmp) q bs) (Some (seen w))) (sym (get-text_map seen m.entries old q))
     ∙ sym (finite.get-insert nat_list_cmp_total (text_map seen m.entries) bs (seen w) q))
 
+removed : {V X : Type 0} (seen : V → X) (b : Bool) (o : Option V) → option_map seen (cond b None o) ≡ cond b None (option_map seen o)
+removed seen true o = refl
+removed seen false o = refl
+
+-- an entry that is removed
+pub text_map-removes : {V X : Type 0} (seen : V → X) (m n : BTreeMap (String Global) V) (bs : List ℕ) → IsOrdered string_cmp m → IsOrdered string_cmp n
+    → UpdatesBy string_cmp (λ k. slice_cmp nat_cmp bs (string_bytes k)) m n None
+    → text_map seen n.entries ≡ finite.remove (text_map seen m.entries) bs
+text_map-removes seen m n bs old new updates =
+    finite.same_map nat_list_cmp_total text_order_same _ _ (λ q.
+    get-text_map seen n.entries new q ∙ ap (option_map seen) (btree_map_updates_text bs m n None updates q)
+    ∙ removed seen (bytes_eq bs q) (get_by_text m q)
+    ∙ ap (λ (b : Bool). cond b None (option_map seen (get_by_text m q))) (same_test bs q)
+    ∙ ap (cond (eq_by_cmp (slice_cmp nat_cmp) q bs) None) (sym (get-text_map seen m.entries old q))
+    ∙ sym (finite.get-remove nat_list_cmp_total (text_map seen m.entries) bs q))
+
 -- what is looked up in a map whose values are seen as they are
 pub text_map-at : {V : Type 0} (m : BTreeMap (String Global) V) (k : List ℕ) (o : Option V) → IsOrdered string_cmp m → o ≡ get_by_text m k → finite.get (text_map (λ (v : V). v) m.entries) k ≡ o
 text_map-at {V} m k o h e = get-text_map (λ (v : V). v) m.entries h k ∙ unchanged _ ∙ sym e

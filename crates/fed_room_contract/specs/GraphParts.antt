@@ -1,5 +1,5 @@
 -- The graph that the fields of a `Graph` stand for, and how they hold together.
-use Rattle.std.specs.Prelude.{◌≡◌, ◌<◌, ℕ, List, IsSome, IfSome, position, vec_len, vec_capacity}
+use Rattle.std.specs.Prelude.{◌≡◌, ◌<◌, ℕ, List, Some, None, IsSome, IfSome, position, vec_len, vec_capacity}
 use Rattle.std.specs.FinMap as finite
 use Rattle.fed_room_contract.specs.declared.graph.Graph.TheInside.{Inside}
 use Rattle.fed_room_contract.specs.Places.{place_at}
@@ -14,3 +14,4 @@ pub record HoldsTogether (g : Inside) : Type 0 where
   pub entered : (id : List ℕ) → place_at g.places id ≡ position (has_id id) g.events.items
   pub spare : IfSome g.reserved (λ _. vec_len g.events < vec_capacity g.events)
   pub named : IfSome g.reserved (λ id. IsSome (finite.get g.places id))
+  pub once : (id : List ℕ) → finite.get g.places id ≡ Some None → g.reserved ≡ Some id

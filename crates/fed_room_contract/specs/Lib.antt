@@ -10,5 +10,9 @@ pub mod GraphParts
 pub mod Draft
 pub mod DraftParts
 pub mod Room
+pub mod Lawful
 pub mod Prepared
 pub mod Runs
+pub mod Store
+pub mod StoreParts
+pub mod Arrival

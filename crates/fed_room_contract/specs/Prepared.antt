@@ -4,13 +4,14 @@ use Rattle.std.specs.Coded.{Coded, code_by, coded×}
 use Rattle.std.specs.Str.{bytes_eq}
 use Rattle.serde_json.specs.Data.{Data}
 use Rattle.fed_event.specs.declared.fault.PduFault.{PduFault}
+use Rattle.fed_event.specs.declared.fault.PduFault.TheVariants as fault
 use Rattle.fed_event.specs.Ids.{is_user_id, domain_of}
 use Rattle.fed_event.specs.Keys.{Checks}
 use Rattle.fed_event.specs.Checked.{CheckedEvent, checked_code, checked_of}
 use Rattle.fed_event.specs.Sealing.{sealed_of}
 use Rattle.fed_event.specs.Tests.{first_fault_of}
 use Rattle.fed_room_contract.specs.declared.refusal.Refusal.{Refusal}
-use Rattle.fed_room_contract.specs.declared.refusal.Refusal.TheVariants.{NotOwnUser, BadDraft, NotAllowed}
+use Rattle.fed_room_contract.specs.declared.refusal.Refusal.TheVariants.{Memory, NotOwnUser, BadDraft, NotAllowed}
 use Rattle.fed_room_contract.specs.declared.verdict.Verdict.{Verdict}
 use Rattle.fed_room_contract.specs.declared.verdict.Verdict.TheVariants.{Accepted, Rejected, SoftFailed}
 use Rattle.fed_room_contract.specs.declared.graph.Stored.{Stored}
@@ -36,12 +37,17 @@ abbrev pub signer_of : List ℕ → List ℕ → (List ℕ → List ℕ) → Che
 signer_of name key sign checks = record { name = name; key = key; sign = sign; checks = checks }
 
 -- the sender is a user of the own server
-abbrev pub is_own_user : Signer → List ℕ → Bool
-is_own_user signer sender = is_user_id sender && bytes_eq (domain_of sender) signer.name
+abbrev pub is_own_user : List ℕ → List ℕ → Bool
+is_own_user own sender = is_user_id sender && bytes_eq (domain_of sender) own
 
 -- the event of these fields, with its hash and the own signature
 abbrev pub sealed_by : Signer → Data → Data
 sealed_by signer parts = sealed_of signer.name signer.key signer.sign parts
+
+-- why nothing is made where what is made is no event
+abbrev pub refusal_of : PduFault → Refusal
+refusal_of fault.Memory = Memory
+refusal_of other = BadDraft other
 
 module _ (rules : Rules) (signer : Signer) (events : List Stored) where
   -- an event that is accepted is prepared
@@ -64,6 +70,6 @@ module _ (rules : Rules) (signer : Signer) (events : List Stored) where
   -- the event that the room makes of a draft, or the first reason against it
   abbrev pub prepared_of : DraftFields → Result PreparedEvent Refusal
   prepared_of draft =
-      if is_own_user signer draft.sender
+      if is_own_user signer.name draft.sender
       then if_sealed (sealed_by signer (rules.parts events draft))
       else Err NotOwnUser

@@ -1,12 +1,13 @@
 -- What a room is, and what becomes of it (Matrix, Server-Server API, "PDUs" and "Checks performed on receipt of a PDU"): the events that are
 -- stored, those that wait for events which they name, and a count of those that could not wait.
 use Rattle.std.specs.Prelude.{ℕ, ◌+◌, ◌-◌, ◌^◌, List, [], ◌∷◌, ◌++◌, Bool, true, false, ◌&&◌, ◌||◌, not, Option, Some, None, filter, find, length, map, min, nat_lt, if◌then◌else◌}
-use Rattle.std.specs.List.{list_any}
+use Rattle.std.specs.List.{list_any, list_all}
 use Rattle.std.specs.Str.{bytes_eq}
 use Rattle.serde_json.specs.Data.{Data}
 use Rattle.fed_event.specs.EventId.{event_id_of}
 use Rattle.fed_event.specs.Fields.{prev_events_of}
 use Rattle.fed_event.specs.Checked.{CheckedEvent}
+use Rattle.fed_room_contract.specs.declared.rule.Rule.{Rule}
 use Rattle.fed_room_contract.specs.declared.verdict.Verdict.{Verdict}
 use Rattle.fed_room_contract.specs.declared.verdict.Verdict.TheVariants.{Accepted, Rejected, SoftFailed}
 use Rattle.fed_room_contract.specs.declared.receipt.Receipt.{Receipt}
@@ -29,6 +30,10 @@ pub record Rules : Type 0 where
   pub current : List Stored → StateMap
   pub parts : List Stored → DraftFields → Data
 
+-- a room in which nothing is stored and nothing waits
+abbrev pub empty_room : RoomState
+empty_room = record { stored = []; waiting = []; dropped = 0 }
+
 -- ---- ids
 
 abbrev pub event_id : CheckedEvent → List ℕ
@@ -42,6 +47,10 @@ is_waiting waiting id = list_any (is_of_id id) waiting
 
 abbrev pub is_known : RoomState → List ℕ → Bool
 is_known room id = is_stored room.stored id || is_waiting room.waiting id
+
+-- no event waits that is stored
+abbrev pub none_stored : List Stored → List CheckedEvent → Bool
+none_stored stored waiting = list_all (λ event. not (is_stored stored (event_id event))) waiting
 
 abbrev pub without : List ℕ → List CheckedEvent → List CheckedEvent
 without id waiting = filter (λ event. not (is_of_id id event)) waiting
@@ -105,9 +114,19 @@ is_accepted Accepted = true
 is_accepted (Rejected rule) = false
 is_accepted (SoftFailed rule) = false
 
+-- the rule by which an event fails
+abbrev pub rule_of : Verdict → Option Rule
+rule_of Accepted = None
+rule_of (Rejected rule) = Some rule
+rule_of (SoftFailed rule) = Some rule
+
+-- an event that names the event of this id as a prev event
+abbrev pub names : Data → List ℕ → Bool
+names event id = list_any (λ prev. bytes_eq prev id) (prev_events_of event)
+
 -- an accepted event that follows the event of this id
 abbrev pub follows : List ℕ → Stored → Bool
-follows id stored = is_accepted stored.verdict && list_any (λ prev. bytes_eq prev id) (prev_events_of stored.event.event)
+follows id stored = is_accepted stored.verdict && names stored.event.event id
 
 -- the accepted events that no accepted event follows, in the order of storing
 abbrev pub extremities_of : List Stored → List (List ℕ)

@@ -1,7 +1,12 @@
 -- A room over a list of inputs.
-use Rattle.std.specs.Prelude.{◌≡◌, ℕ, List, [], ◌∷◌, replicate}
+use Rattle.std.specs.Prelude.{◌≡◌, ◌≤◌, ℕ, List, [], ◌∷◌, ◌++◌, true, false, length, map, replicate}
+use Rattle.std.specs.List.{IsDistinct}
+use Rattle.std.specs.Str.{bytes_eq}
 use Rattle.fed_event.specs.Checked.{CheckedEvent}
-use Rattle.fed_room_contract.specs.Room.{Rules, RoomState, receipt_of, after_receipt, advanced, committed}
+use Rattle.fed_room_contract.specs.declared.verdict.Verdict.TheVariants.{Accepted}
+use Rattle.fed_room_contract.specs.declared.graph.Stored.{Stored}
+use Rattle.fed_room_contract.specs.Graph.{IsGraph, is_stored, is_ready}
+use Rattle.fed_room_contract.specs.Room.{Rules, RoomState, event_id, none_stored, most_waiting, receipt_of, after_receipt, advanced, committed}
 
 -- an event is received, the first waiting one that is ready is stored, or an event that was prepared is stored
 pub data Input : Type 0 where
@@ -18,6 +23,35 @@ after_input rules room (commit event) = committed room event
 abbrev pub room_after : Rules → RoomState → List Input → RoomState
 room_after rules room [] = room
 room_after rules room (input ∷ inputs) = room_after rules (after_input rules room input) inputs
+
+-- ---- what holds of a room, whatever it is given
+
+-- an event that is ready and that the rules accept
+pub record IsAcceptable (rules : Rules) (room : RoomState) (event : CheckedEvent) : Type 0 where
+  pub ready : is_ready room.stored event.event ≡ true
+  pub accepted : rules.decide room.stored event ≡ Accepted
+
+-- an event is committed only where it is stored already, or is one of those
+abbrev pub MayBeGiven : Rules → RoomState → Input → Type 0
+MayBeGiven rules room (receive event) = Unit {0}
+MayBeGiven rules room advance = Unit {0}
+MayBeGiven rules room (commit event) = is_stored room.stored (event_id event) ≡ false → IsAcceptable rules room event
+
+-- each input at its time
+abbrev pub AllMayBeGiven : Rules → RoomState → List Input → Type 0
+AllMayBeGiven rules room [] = Unit {0}
+AllMayBeGiven rules room (input ∷ inputs) = MayBeGiven rules room input × AllMayBeGiven rules (after_input rules room input) inputs
+
+-- the stored events are a graph, and each has the verdict of the rules over those before it; the waiting ones are different, not stored,
+-- and no more than may wait
+pub record IsRoom (rules : Rules) (room : RoomState) : Type 0 where
+  pub graph : IsGraph room.stored
+  pub decided : (before : List Stored) (next : Stored) (after : List Stored) → room.stored ≡ before ++ next ∷ after → next.verdict ≡ rules.decide before next.event
+  pub apart : none_stored room.stored room.waiting ≡ true
+  pub different : IsDistinct bytes_eq (map event_id room.waiting)
+  pub few : length room.waiting ≤ most_waiting
+
+-- ---- storing all that is ready
 
 -- a room that advanced some times
 pub record IsAdvanced (rules : Rules) (old new : RoomState) : Type 0 where

@@ -134,7 +134,7 @@ impl Graph {
         ensures err { OnErr result (self.new ≡ self.old) }
     {
         self.reserve(alloc, event.event().id())?;
-        self.push_reserved(event, verdict);
+        drop(self.push_reserved(event, verdict));
         Ok(())
     }
 
@@ -147,24 +147,28 @@ impl Graph {
         ensures ok { OnOk result (self.new ≡ with_room self.old id.now) }
         ensures err { OnErr result (self.new ≡ self.old) }
     {
-        let reserved = id.copy(alloc)?;
-        self.places.make_room(alloc, id.as_str())?;
         self.events.reserve(1)?;
+        let reserved = id.copy(alloc)?;
+        self.places.make_room(alloc, id, self.reserved.as_ref())?;
         self.reserved = Some(reserved);
         Ok(())
     }
 
-    /// Stores an event that is ready and that room was made for. It takes no memory.
-    pub fn push_reserved(&mut self, event: Checked, verdict: Verdict)
+    /// Stores an event that is ready and that room was made for, and gives its id. It takes no memory.
+    pub fn push_reserved(&mut self, event: Checked, verdict: Verdict) -> EventId
         requires reserved { self.old.reserved ≡ Some (event_id_of event.event) }
         requires new { is_stored self.old.stored (event_id_of event.event) ≡ false }
         requires ready { is_ready_in self.old.stored event.event ≡ true }
-        ensures { self.new ≡ with_event self.old (record { event = event; verdict = verdict }) }
+        ensures id { result ≡ event_id_of event.event }
+        ensures stored { self.new ≡ with_event self.old (record { event = event; verdict = verdict }) }
     {
         let place = self.events.len();
         self.places.enter(event.event().id().as_str(), place);
         self.events.push(Stored { event, verdict }).unwrap();
-        self.reserved = None;
+        match self.reserved.take() {
+            Some(id) => id,
+            None => unreachable!(),
+        }
     }
 
     // Whether the events of all these ids are stored.

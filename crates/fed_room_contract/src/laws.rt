@@ -5,8 +5,9 @@ ghost use Rattle.serde_json.specs.Data.{Data};
 ghost use Rattle.fed_room_contract.specs.declared.graph.Stored.{Stored};
 ghost use Rattle.fed_room_contract.specs.State.{StateMap, StateKey, entry_at, with_entry};
 ghost use Rattle.fed_room_contract.specs.Graph.{IsGraph, IsNext, id_of, has_id, stored_at, is_stored, is_ready};
-ghost use Rattle.fed_room_contract.specs.Room.{Rules, RoomState};
-ghost use Rattle.fed_room_contract.specs.Runs.{Input, room_after};
+ghost use Rattle.fed_room_contract.specs.Lawful.{AreLawful};
+ghost use Rattle.fed_room_contract.specs.Room.{Rules, RoomState, empty_room};
+ghost use Rattle.fed_room_contract.specs.Runs.{Input, after_input, room_after, IsRoom, MayBeGiven, AllMayBeGiven};
 
 use crate::engine::RoomEngine;
 
@@ -46,10 +47,26 @@ pub fn rooms_grow()
         → room_after rules room (inputs ++ more) ≡ room_after rules (room_after rules room inputs) more }
 {}
 
+/// A new room is well formed, and what it is given leaves it so: the stored events are a graph, each with the verdict of the rules over
+/// those that were stored before it; the waiting ones are different from one another and not stored, and at most `MOST_WAITING`. An
+/// event that is committed has to be stored already, or ready and accepted, as `prepare` gives it.
+pub fn rooms_stay_well_formed()
+    ensures new { (rules : Rules) → IsRoom rules empty_room }
+    ensures input { (rules : Rules) (room : RoomState) (input : Input) → IsRoom rules room → MayBeGiven rules room input
+        → IsRoom rules (after_input rules room input) }
+    ensures inputs { (rules : Rules) (room : RoomState) (inputs : List Input) → IsRoom rules room → AllMayBeGiven rules room inputs
+        → IsRoom rules (room_after rules room inputs) }
+{}
+
+/// The rules of whatever keeps a room are such as every room relies on: the state before an event stays as the room grows, and states
+/// name stored events alone.
+pub fn rules_are_lawful<R: RoomEngine>()
+    ensures { (engine : R) → AreLawful (R.rules engine) }
+{}
+
 /// The state before a stored event stays, whatever the room is given.
-pub fn states_before_stay<R: RoomEngine>()
-    ensures { (engine : R) (room : RoomState) (inputs : List Input) (id : List ℕ) (stored : Stored)
-        → IsGraph (room_after (R.rules engine) room inputs).stored → stored_at room.stored id ≡ Some stored
-        → (R.rules engine).before (room_after (R.rules engine) room inputs).stored stored.event.event
-        ≡ (R.rules engine).before room.stored stored.event.event }
+pub fn states_before_stay()
+    ensures { (rules : Rules) (room : RoomState) (inputs : List Input) (id : List ℕ) (stored : Stored) → AreLawful rules
+        → IsRoom rules room → AllMayBeGiven rules room inputs → stored_at room.stored id ≡ Some stored
+        → rules.before (room_after rules room inputs).stored stored.event.event ≡ rules.before room.stored stored.event.event }
 {}

@@ -10,12 +10,15 @@
 //! - `draft`: `Draft`, what a user wants to send
 //! - `prepared`: `Prepared`, the event that a room makes of a draft
 //! - `receipt`, `refusal`: what becomes of an event, and why none is made of a draft
+//! - `arrival`: what becomes of an event before there is a verdict on it
+//! - `store`: `EventStore`, the events that a room stores, lets wait and drops
 //! - `engine`: `RoomEngine`, what keeps a room
 //! - `advancing`: storing all waiting events that are ready
 //! - `laws`: what holds of all states and graphs
 #![tactic(auto)]
 
 mod advancing;
+mod arrival;
 mod draft;
 mod engine;
 mod entry;
@@ -28,19 +31,23 @@ mod receipt;
 mod refusal;
 mod rule;
 mod state;
+mod store;
 mod verdict;
 
 pub use advancing::advance_all;
+pub use arrival::Arrival;
 pub use draft::Draft;
 pub use engine::RoomEngine;
 pub use entry::Entry;
 pub use graph::{Graph, Stored};
 pub use laws::{
-    entries_of_states, graphs_grow, rooms_grow, states_before_stay, stored_events_stay,
+    entries_of_states, graphs_grow, rooms_grow, rooms_stay_well_formed, rules_are_lawful,
+    states_before_stay, stored_events_stay,
 };
 pub use prepared::Prepared;
 pub use receipt::Receipt;
 pub use refusal::Refusal;
 pub use rule::Rule;
 pub use state::State;
+pub use store::{EventStore, MOST_WAITING};
 pub use verdict::Verdict;

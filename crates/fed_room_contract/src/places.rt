@@ -1,8 +1,9 @@
 // Where stored events stand.
-ghost use Rattle.std.specs.Prelude.{◌≡◌, Some, None, IsSome, OnOk, OnErr};
+ghost use Rattle.std.specs.Prelude.{◌≡◌, Some, None, IsSome, OnOk, OnErr, option_map};
 ghost use Rattle.std.specs.FinMap as finite;
-ghost use Rattle.fed_room_contract.specs.Places.{place_at, with_room_for};
+ghost use Rattle.fed_room_contract.specs.Places.{place_at, with_room_for, without_room_for, with_room_in_place_of};
 
+use fed_event::EventId;
 use fed_json::NoMemory;
 use std::alloc::Global;
 use std::collections::BTreeMap;
@@ -49,8 +50,27 @@ impl Places {
         }
     }
 
-    /// Makes room for an id that has none. An error leaves all as it was.
-    pub(crate) fn make_room(&mut self, alloc: Global, id: &str) -> Result<(), NoMemory>
+    /// Makes room for an id that has none, in place of the room that was made for another one before. An error leaves all as it was.
+    pub(crate) fn make_room(
+        &mut self,
+        alloc: Global,
+        id: &EventId,
+        before: Option<&EventId>,
+    ) -> Result<(), NoMemory>
+        ensures ok { OnOk result (self.new ≡ with_room_in_place_of self.old (option_map (λ b. b.now) before.entry) id.now) }
+        ensures err { OnErr result (self.new ≡ self.old) }
+    {
+        self.add_room(alloc, id.as_str())?;
+        if let Some(before) = before
+            && before != id
+        {
+            self.take_room_back(before.as_str());
+        }
+        Ok(())
+    }
+
+    // Makes room for an id that has none. An error leaves all as it was.
+    fn add_room(&mut self, alloc: Global, id: &str) -> Result<(), NoMemory>
         ensures ok { OnOk result (self.new ≡ with_room_for self.old id.now) }
         ensures err { OnErr result (self.new ≡ self.old) }
     {
@@ -60,6 +80,15 @@ impl Places {
         let id = String::from_str(alloc, id)?;
         drop(self.places.insert(id, None)?);
         Ok(())
+    }
+
+    // Takes back the room for an id, unless a place was entered.
+    fn take_room_back(&mut self, id: &str)
+        ensures { self.new ≡ without_room_for self.old id.now }
+    {
+        if self.get(id).is_none() {
+            drop(self.places.remove(id));
+        }
     }
 
     /// Enters the place of an id that room was made for.

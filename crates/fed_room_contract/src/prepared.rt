@@ -1,9 +1,11 @@
 // Events that a room has prepared.
-ghost use Rattle.std.specs.Prelude.{◌≡◌};
+ghost use Rattle.std.specs.Prelude.{◌≡◌, IfOk};
 ghost use Rattle.fed_event.specs.EventId.{event_id_of};
 
 use crate::state::State;
 use fed_event::{Checked, EventId};
+use fed_json::NoMemory;
+use std::alloc::Global;
 use std::marker::Model;
 
 /// An event that a room has made of a draft and can store, and the state before it.
@@ -29,12 +31,12 @@ impl Model for Prepared {
 }
 
 impl Prepared {
-    /// An event, the state before it, and its id.
-    pub fn new(event: Checked, before: State, id: EventId) -> Prepared
-        requires { id ≡ event_id_of event.event }
-        ensures { result ≡ record { event = event; before = before } }
+    /// An event, and the state before it.
+    pub fn new(alloc: Global, event: Checked, before: State) -> Result<Prepared, NoMemory>
+        ensures { IfOk result (λ p. p ≡ record { event = event; before = before }) }
     {
-        Prepared { event, before, id }
+        let id = event.event().id().copy(alloc)?;
+        Ok(Prepared { event, before, id })
     }
 
     /// The event.

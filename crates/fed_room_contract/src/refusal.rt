@@ -31,3 +31,16 @@ impl From<NoMemory> for Refusal {
         Self::Memory
     }
 }
+
+impl From<PduFault> for Refusal {
+    ghost use Rattle.fed_room_contract.specs.Prepared.{refusal_of};
+
+    ghost from_gives = { λ fault e. e ≡ refusal_of fault };
+
+    fn from(fault: PduFault) -> Refusal {
+        match fault {
+            PduFault::Memory => Self::Memory,
+            fault => Self::BadDraft(fault),
+        }
+    }
+}

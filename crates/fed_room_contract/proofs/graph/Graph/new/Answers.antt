@@ -1,4 +1,4 @@
-use Rattle.std.proofs.Common.{sym, ap, ◌∙◌, subst, nat_cmp}
+use Rattle.std.proofs.Common.{ℕ, Option, sym, ap, ◌∙◌, subst, nat_cmp}
 use Rattle.std.specs.FinMap as finite
 use Rattle.std.specs.List.{position}
 use Rattle.std.specs.Cmp.Lexicographic.{slice_cmp}
@@ -13,4 +13,5 @@ invariant_of-result c = record {
   entered = λ id. ap (λ (m : PlaceMap). place_at m id) c.new-2.ensures ∙ ap place_in (finite.get-empty (slice_cmp nat_cmp) id) ∙ ap (position (has_id id)) (sym c.new.ensures.items);
   spare = tt;
   named = tt;
+  once = λ id h. let none = finite.get-empty {X = Option ℕ} (slice_cmp nat_cmp) id in let same = ap (λ (m : PlaceMap). finite.get m id) c.new-2.ensures in absurd (cc);
 }

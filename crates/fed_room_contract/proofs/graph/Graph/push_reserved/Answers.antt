@@ -1,6 +1,9 @@
-use Rattle.std.proofs.Common.{◌≡◌, ◌∙◌, ℕ, List, ◌++◌, ◌∷◌, [], Some, length, arith, is_ok, if◌then◌else◌, sym, ap, subst}
+use Rattle.std.proofs.Common.{◌≡◌, ◌∙◌, ℕ, List, ◌++◌, ◌∷◌, [], Option, None, Some, IsSome, IfSome, vec_len, vec_capacity, ◌<◌, Bool, true, false, cond, nat_cmp, length, arith, is_ok, if◌then◌else◌, refl, sym, ap, subst}
 use Rattle.std.specs.FinMap as finite
 use Rattle.std.specs.List.{position}
+use Rattle.std.specs.Ordering.{eq_by_cmp}
+use Rattle.std.specs.Cmp.Lexicographic.{slice_cmp, nat_list_cmp_total}
+use Rattle.fed_room_contract.proofs.PlaceMaps.{itself}
 use Rattle.fed_event.specs.EventId.{event_id_of}
 use Rattle.fed_room_contract.specs.Places.{PlaceMap, place_at}
 use Rattle.fed_room_contract.specs.declared.graph.Stored.{Stored}
@@ -8,6 +11,15 @@ use Rattle.fed_room_contract.specs.Graph.{IsGraph, IsNext, has_id, id_of}
 use Rattle.fed_room_contract.specs.GraphState.{GraphState}
 use Rattle.fed_room_contract.proofs.Graphs.{graph_grows, entered_more}
 use Rattle.fed_room_contract.proofs.graph.Graph.push_reserved.Goals as goal
+
+-- no room is left beside the id that is entered
+entered_once : (places : PlaceMap) (id q : List ℕ) (n : ℕ) (reserved : Option (List ℕ)) → reserved ≡ Some id → ((r : List ℕ) → finite.get places r ≡ Some None → reserved ≡ Some r)
+    → finite.get (finite.insert places id (Some n)) q ≡ Some None → ⊥
+entered_once places id q n reserved only once h = by (eq_by_cmp (slice_cmp nat_cmp) q id) refl (sym (finite.get-insert nat_list_cmp_total places id (Some n) q) ∙ h)
+  where
+    by : (b : Bool) → eq_by_cmp (slice_cmp nat_cmp) q id ≡ b → cond b (Some (Some n)) (finite.get places q) ≡ Some None → ⊥
+    by true t h = absurd (cc)
+    by false t h = let other = once q h in let same : q ≡ id = cc in let here = itself id in let tie = ap (λ i. eq_by_cmp (slice_cmp nat_cmp) i id) same in absurd (cc)
 
 pub invariant_of-self : goal.invariant_of-self
 invariant_of-self c =
@@ -24,6 +36,7 @@ invariant_of-self c =
     record {
       graph = subst IsGraph (sym items) (graph_grows xs last c.self.invariant.graph next);
       entered = λ q. ap (λ (m : PlaceMap). place_at m q) places ∙ entered_more old.places xs last c.self.invariant.entered next.new q ∙ ap (position (has_id q)) (sym items);
-      spare = tt;
-      named = tt;
+      spare = subst (λ (o : Option (List ℕ)). IfSome o (λ _. vec_len c.push.new.self < vec_capacity c.push.new.self)) (sym c.take.ensures.after) tt;
+      named = subst (λ (o : Option (List ℕ)). IfSome o (λ id. IsSome (finite.get c.enter.new.self id))) (sym c.take.ensures.after) tt;
+      once = λ q h. absurd (entered_once old.places (id_of last) q (length xs) old.reserved (ap (λ (g : GraphState). g.reserved) c.self.view_is ∙ c.requires.reserved) c.self.invariant.once (ap (λ (m : PlaceMap). finite.get m q) (sym places) ∙ h));
     }

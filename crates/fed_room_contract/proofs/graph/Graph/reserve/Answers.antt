@@ -1,41 +1,52 @@
-use Rattle.std.proofs.Common.{◌≡◌, ◌<◌, ◌∙◌, ℕ, List, Option, None, Some, IsSome, IfSome, vec_len, vec_capacity, sym, ap, subst, arith}
+use Rattle.std.proofs.Common.{◌≡◌, ◌<◌, ◌≤◌, ◌∙◌, ℕ, List, Option, None, Some, IsSome, IfSome, vec_len, vec_capacity, refl, sym, ap, subst, arith}
 use Rattle.std.specs.FinMap as finite
 use Rattle.std.specs.List.{position}
-use Rattle.fed_room_contract.specs.Places.{PlaceMap, place_at, with_room_for}
-use Rattle.fed_room_contract.specs.declared.graph.Stored.{Stored}
+use Rattle.fed_room_contract.specs.Places.{PlaceMap, place_at, with_room_in_place_of}
+use Rattle.fed_room_contract.specs.declared.graph.Graph.TheInside.{Inside}
 use Rattle.fed_room_contract.specs.Graph.{IsGraph, has_id}
-use Rattle.fed_room_contract.proofs.PlaceMaps.{place_at-room, room_stays, room_is_made}
+use Rattle.fed_room_contract.specs.GraphParts.{HoldsTogether}
+use Rattle.fed_room_contract.proofs.PlaceMaps.{place_at-moved, moved_is_made, moved_once}
 use Rattle.fed_room_contract.proofs.graph.Graph.reserve.Goals as goal
 
 if_some_more : (o : Option (List ℕ)) (P Q : List ℕ → Type 0) → ((x : List ℕ) → P x → Q x) → IfSome o P → IfSome o Q
 if_some_more None P Q f p = tt
 if_some_more (Some x) P Q f p = f x p
 
--- what was entered stays, with the same events
-entered_still : (places new : PlaceMap) (id : List ℕ) (xs ys : List Stored) → new ≡ with_room_for places id → ys ≡ xs → ((q : List ℕ) → place_at places q ≡ position (has_id q) xs) → (q : List ℕ) → place_at new q ≡ position (has_id q) ys
-entered_still places new id xs ys e f h q = ap (λ (m : PlaceMap). place_at m q) e ∙ place_at-room places id q ∙ h q ∙ ap (position (has_id q)) (sym f)
+-- with more room for events
+more_room : (g h : Inside) → h.events.items ≡ g.events.items → vec_len h.events ≡ vec_len g.events → vec_capacity g.events ≤ vec_capacity h.events → h.places ≡ g.places → h.reserved ≡ g.reserved
+    → HoldsTogether g → HoldsTogether h
+more_room g h items len capacity places reserved holds = record {
+  graph = subst IsGraph (sym items) holds.graph;
+  entered = λ id. ap (λ (m : PlaceMap). place_at m id) places ∙ holds.entered id ∙ ap (position (has_id id)) (sym items);
+  spare = subst (λ o. IfSome o (λ _. vec_len h.events < vec_capacity h.events)) (sym reserved)
+      (if_some_more g.reserved (λ _. vec_len g.events < vec_capacity g.events) (λ _. vec_len h.events < vec_capacity h.events) (λ _ t. omega arith) holds.spare);
+  named = subst (λ o. IfSome o (λ id. IsSome (finite.get h.places id))) (sym reserved) (subst (λ (m : PlaceMap). IfSome g.reserved (λ id. IsSome (finite.get m id))) (sym places) holds.named);
+  once = λ id t. reserved ∙ holds.once id (ap (λ (m : PlaceMap). finite.get m id) (sym places) ∙ t);
+}
 
-pub invariant_of-self-in_err-reserve : goal.invariant_of-self-in_err-reserve
-invariant_of-self-in_err-reserve c =
-    let old = c.self.inside in
-    let room = c.in_ok-make_room.ensures.ok in
-    let fewer : vec_len old.events < vec_capacity old.events → vec_len c.reserve.new.self < vec_capacity c.reserve.new.self = λ h. let len = c.reserve.ensures.len in let cap = c.reserve.ensures.capacity in omega arith in
-    record {
-      graph = subst IsGraph (sym c.reserve.ensures.items) c.self.invariant.graph;
-      entered = entered_still old.places c.make_room.new.self c.as_str.result.now old.events.items c.reserve.new.self.items room c.reserve.ensures.items c.self.invariant.entered;
-      spare = if_some_more old.reserved (λ _. vec_len old.events < vec_capacity old.events) (λ _. vec_len c.reserve.new.self < vec_capacity c.reserve.new.self) (λ _ h. fewer h) c.self.invariant.spare;
-      named = if_some_more old.reserved (λ q. IsSome (finite.get old.places q)) (λ q. IsSome (finite.get c.make_room.new.self q))
-          (λ q h. subst (λ (m : PlaceMap). IsSome (finite.get m q)) (sym room) (room_stays old.places c.as_str.result.now q h)) c.self.invariant.named;
-    }
+pub invariant_of-self-in_err-reserved : goal.invariant_of-self-in_err-reserved
+invariant_of-self-in_err-reserved c =
+    more_room c.self.inside _ c.reserve.ensures.items c.reserve.ensures.len c.reserve.ensures.capacity refl refl c.self.invariant
+
+pub invariant_of-self-in_err-make_room : goal.invariant_of-self-in_err-make_room
+invariant_of-self-in_err-make_room c =
+    more_room c.self.inside _ c.reserve.ensures.items c.reserve.ensures.len c.reserve.ensures.capacity c.in_err-make_room.ensures.err refl c.self.invariant
+
+pub invariant_of-self : goal.invariant_of-self
+invariant_of-self c =
+    more_room c.self.inside _ c.reserve.ensures.items c.reserve.ensures.len c.reserve.ensures.capacity refl refl c.self.invariant
 
 pub invariant_of-self-2 : goal.invariant_of-self-2
 invariant_of-self-2 c =
     let old = c.self.inside in
-    let room = c.in_ok-make_room.ensures.ok in
-    let made = subst (λ (m : PlaceMap). IsSome (finite.get m c.as_str.result.now)) (sym room) (room_is_made old.places c.as_str.result.now) in
+    let id = c.args.id.now in
+    let copied : c.in_ok-reserved.reserved ≡ id = c.in_ok-reserved.ensures in
+    let places : c.make_room.new.self ≡ with_room_in_place_of old.places old.reserved id =
+    c.in_ok-make_room.ensures.ok ∙ ap (λ (o : Option (List ℕ)). with_room_in_place_of old.places o id) c.as_ref.ensures.value in
     record {
       graph = subst IsGraph (sym c.reserve.ensures.items) c.self.invariant.graph;
-      entered = entered_still old.places c.make_room.new.self c.as_str.result.now old.events.items c.reserve.new.self.items room c.reserve.ensures.items c.self.invariant.entered;
+      entered = λ q. ap (λ (m : PlaceMap). place_at m q) places ∙ place_at-moved old.places old.reserved id q ∙ c.self.invariant.entered q ∙ ap (position (has_id q)) (sym c.reserve.ensures.items);
       spare = let h = c.in_ok-reserve.ensures.ok in omega arith;
-      named = subst (λ q. IsSome (finite.get c.make_room.new.self q)) (c.as_str.ensures.text ∙ sym c.in_ok-reserved.ensures) made;
+      named = subst (λ q. IsSome (finite.get c.make_room.new.self q)) (sym copied) (subst (λ (m : PlaceMap). IsSome (finite.get m id)) (sym places) (moved_is_made old.places old.reserved id));
+      once = λ q t. ap Some (copied ∙ sym (moved_once old.places old.reserved id c.self.invariant.once q (ap (λ (m : PlaceMap). finite.get m q) (sym places) ∙ t)));
     }
