@@ -26,8 +26,8 @@ pub(crate) fn step<R: RoomEngine>(
         "receive" => receive(operation, room, keys),
         "advance" => advance(operation.alloc, room),
         "advance_all" => {
-            advance_all(operation.alloc, room)?;
-            null(operation.alloc)
+            let stored = advance_all(operation.alloc, room)?;
+            count(operation.alloc, stored as u64)
         }
         "send" => send(operation, room, keys),
         "prepare" => prepare(operation, room, keys),
@@ -44,7 +44,7 @@ fn look<R: RoomEngine>(name: &str, operation: Arguments<'_>, room: &R) -> Answer
             None => null(alloc),
         },
         "current" => entries(alloc, &room.current(alloc)?),
-        "extremities" => ids(alloc, &room.extremities(alloc)?),
+        "extremities" => ids(alloc, room.extremities()),
         _ => Err(operation.wrong_kind("operations")),
     }
 }
