@@ -1,4 +1,4 @@
-// The auth events that an event has.
+// The selection of the auth events that an event has.
 ghost use Rattle.std.specs.Prelude.{◌≡◌, IfOk, OnOk, option_map};
 ghost use Rattle.fed_auth.specs.Selection.{is_by_join_rules, selector_of, entry_of, with_id, selection_of};
 ghost use Rattle.fed_auth.specs.SelectionKey.{seen};
@@ -211,7 +211,7 @@ struct Key<'a> {
 impl<'a> Key<'a> {
     ghost use Rattle.fed_auth.specs.Selection.{room_key, member_key, is_key};
 
-    // That of an event that a room has one of.
+    // The key of an event that a room has one of.
     fn of_room(kind: &'a str) -> Key<'a>
         ensures { seen result ≡ room_key kind.now }
     {
@@ -221,7 +221,7 @@ impl<'a> Key<'a> {
         }
     }
 
-    // That of the membership of a user.
+    // The key of the membership of a user.
     fn of_member(user: &'a str) -> Key<'a>
         ensures { seen result ≡ member_key user.now }
     {
