@@ -40,7 +40,10 @@ fn verdicts_one_by_one(rt: HostRuntime) -> Result<(), Fail> {
     assert_eq!(rt; verdicts.len(), 2);
     assert!(rt; !verdicts.is_empty());
     assert!(rt; verdicts.contains("$b") && !verdicts.contains("$"));
-    assert_eq!(rt; verdicts.get("$b"), Some(Some("missing field: auth_events")));
+    assert_eq!(rt;
+        verdicts.get("$b"),
+        Some(Some("missing field: auth_events"))
+    );
     assert_eq!(rt; verdicts.get("$a"), Some(None));
     assert_eq!(rt; verdicts.get("$"), None);
     Ok(())
