@@ -1,5 +1,5 @@
 // Ids, copies and texts of events that no line of output shows.
-use fed_event::{Pdu, PduFault, Texts, event_id, event_id_of_signed};
+use fed_event::{CheckFault, Pdu, PduFault, Texts, event_id, event_id_of_signed};
 use fed_json::{Json, JsonFault, canonical, read};
 use std::alloc::Global;
 use std::test::Fail;
@@ -68,5 +68,16 @@ fn texts_in_the_room_of_others(rt: HostRuntime) -> Result<(), Fail> {
     assert_eq!(rt; texts.whole(), b"{\"depth\":4}".as_slice());
     assert_eq!(rt; texts.into_signed().as_slice(), b"{\"depth\":4}".as_slice());
     assert!(rt; Texts::new(alloc).whole().is_empty());
+    Ok(())
+}
+
+#[test]
+fn want_of_memory_in_words(rt: HostRuntime) -> Result<(), Fail> {
+    let alloc = rt.alloc();
+    let (value, event, check) = (JsonFault::Memory, PduFault::Memory, CheckFault::Memory);
+    assert_eq!(rt; format!(in alloc; "{value}")?.as_str(), "out of memory");
+    assert_eq!(rt; format!(in alloc; "{event}")?.as_str(), "out of memory");
+    assert_eq!(rt; format!(in alloc; "{check}")?.as_str(), "out of memory");
+    assert_eq!(rt; event.verdict_text(alloc)?.as_str(), "out of memory");
     Ok(())
 }

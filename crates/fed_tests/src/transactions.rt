@@ -57,5 +57,14 @@ fn names_and_want_of_memory(rt: HostRuntime) -> Result<(), Fail> {
     let fault = TxnFault::from(AllocError);
     assert_eq!(rt; fault, TxnFault::Memory);
     assert_eq!(rt; fault.text(), "out of memory");
+    assert_eq!(rt;
+        format!(in rt.alloc(); "{fault}")?.as_str(),
+        "out of memory"
+    );
+    let large = TxnFault::TooLarge;
+    assert_eq!(rt;
+        format!(in rt.alloc(); "{large}")?.as_str(),
+        "body too large"
+    );
     Ok(())
 }
