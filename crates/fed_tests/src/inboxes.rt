@@ -1,7 +1,6 @@
 // A body that is too large, and what an inbox tells of itself.
-use fed_event::{Trusting, is_sent_by, seal};
+use fed_event::Trusting;
 use fed_inbox::{Inbox, Refusal};
-use fed_json::{canonical, read};
 use fed_txn::BodyField;
 use std::alloc::Global;
 use std::test::Fail;
@@ -44,33 +43,5 @@ fn names(rt: HostRuntime) -> Result<(), Fail> {
         Refusal::OutOfMemory.body(),
         "{\"errcode\":\"M_UNKNOWN\",\"error\":\"out of memory\"}"
     );
-    Ok(())
-}
-
-// The parts of an event of @u:a.example.
-const PARTS: &str =
-    "{\"auth_events\":[],\"content\":{},\"depth\":1,\"origin_server_ts\":1,\"prev_events\":[],\"room_id\":\"!r:a.example\",\"sender\":\"@u:a.example\",\"type\":\"m.x\"}";
-
-// The body of a transaction of that event.
-fn body(alloc: Global, keys: &Trusting) -> Result<String, Fail> {
-    let parts = read(alloc, PARTS.as_bytes())?;
-    if !is_sent_by("a.example", &parts) {
-        return Err(Fail::new("another server"));
-    }
-    let event = canonical(alloc, seal(alloc, parts, keys)?.event().json())?;
-    let text = std::str::from_utf8(&event).or(Err("no text"))?;
-    Ok(format!(in alloc; "{{\"origin\":\"a.example\",\"origin_server_ts\":1,\"pdus\":[{text}]}}")?)
-}
-
-#[test]
-fn events_are_handed_out_once(rt: HostRuntime) -> Result<(), Fail> {
-    let alloc = rt.alloc();
-    let keys = Trusting::new(String::from_str(alloc, "a.example")?);
-    let mut inbox = inbox(alloc)?;
-    let body = body(alloc, &keys)?;
-    let reply = inbox.answer_body(alloc, "a.example", "1", body.as_bytes(), &keys);
-    assert_eq!(rt; reply.status(), 200);
-    assert_eq!(rt; inbox.fresh().len(), 1);
-    assert_eq!(rt; inbox.fresh().len(), 0);
     Ok(())
 }
