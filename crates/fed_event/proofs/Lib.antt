@@ -1,4 +1,5 @@
 pub mod RedactionPasses
+pub mod CheckedFields
 pub mod Faults
 pub mod Reading
 pub mod DecodedSignatures

@@ -7,6 +7,7 @@ ghost use Rattle.fed_redaction.specs.EventId.{signed_text_of, event_id_of};
 ghost use Rattle.fed_redaction.specs.ContentHash.{hash_fits_of};
 ghost use Rattle.fed_keys.specs.Keys.{Checks};
 ghost use Rattle.fed_event.specs.Signatures.{is_signed as is_signed_by_sender};
+ghost use Rattle.fed_event.specs.Fields.{room_id_of};
 ghost use Rattle.fed_event.specs.Checked.{authorising_user_of, is_authorised as is_authorised_by, checked_of};
 ghost use Rattle.fed_event.specs.CheckVerdict.{check_verdict_of};
 
@@ -182,7 +183,8 @@ fn authorising_user(event: &Pdu) -> Option<&str>
         .text()
 }
 
-/// An event that has passed the checks on receipt has the id of the event that came, redacted or not.
+/// An event that has passed the checks on receipt has the id and the room of the event that came, redacted or not.
 pub fn ids_of_checked()
-    ensures { (checks : Checks) (event : Data) → event_id_of (checked_of checks event).event ≡ event_id_of event }
+    ensures id { (checks : Checks) (event : Data) → event_id_of (checked_of checks event).event ≡ event_id_of event }
+    ensures room { (checks : Checks) (event : Data) → room_id_of (checked_of checks event).event ≡ room_id_of event }
 {}

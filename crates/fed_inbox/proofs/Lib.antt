@@ -1,7 +1,10 @@
 pub mod Logs
 pub mod Places
 pub mod Steps
+pub mod FoundLogs
+pub mod Cases
 pub mod Runs
+pub mod ForRooms
 pub mod RoomSets
 pub mod Entering
 pub mod LookUps

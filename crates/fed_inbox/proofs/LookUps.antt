@@ -19,7 +19,7 @@ use Rattle.fed_inbox.specs.Rooms.{with_rooms}
 use Rattle.fed_inbox.specs.Inbox.{is_of, is_new, log_at, empty_log, with_server, with_servers}
 use Rattle.fed_inbox.specs.Taking.{firsts_but, verdict_on, with_verdicts}
 use Rattle.fed_inbox.specs.LookUps.{log_of_new, has_id}
-use Rattle.fed_inbox.proofs.Runs.{same_or_not}
+use Rattle.fed_inbox.proofs.FoundLogs.{same_or_not}
 
 -- ---- the rooms
 

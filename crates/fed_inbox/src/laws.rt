@@ -1,21 +1,26 @@
 // What holds of all inboxes and all lists of requests.
-ghost use Rattle.std.specs.Prelude.{◌≡◌, ◌≢◌, ℕ, List, Bool, Some, option_map, find, ◌++◌};
+ghost use Rattle.std.specs.Prelude.{◌≡◌, ◌≢◌, ℕ, List, [], ◌∷◌, ◌++◌, Bool, Some, None, All, AllPairs, option_map, find};
 ghost use Rattle.std.specs.FinMap as finite;
 ghost use Rattle.serde_json.specs.Data.{Data};
 ghost use Rattle.fed_event.specs.Names.{is_one_of};
+ghost use Rattle.fed_event.specs.EventId.{event_id_of};
 ghost use Rattle.fed_event.specs.Keys.{Checks};
 ghost use Rattle.fed_inbox.specs.Inbox.{InboxState, new_inbox, log_at, taken_of, taken_edus_of};
 ghost use Rattle.fed_inbox.specs.LookUps.{log_of_new, has_id};
 ghost use Rattle.fed_inbox.specs.Taking.{verdict_on, verdicts_on};
-ghost use Rattle.fed_inbox.specs.Answer.{Request, after, marked_after};
-ghost use Rattle.fed_inbox.specs.Runs.{after_all, kept_reply};
+ghost use Rattle.fed_inbox.specs.Answer.{Request, marked_answer, marked_after, marked_fresh};
+ghost use Rattle.fed_inbox.specs.Reply.{accepted};
+ghost use Rattle.fed_inbox.specs.Runs.{Asked, answers, after_all, fresh_all, kept_reply, WasAnswered, Takes, IsForRooms, IsRepeatAnswer};
 
-/// A new inbox has an empty log for each listed server but its own and for no other server, and knows just the rooms that it was given.
+/// A new inbox has an empty log for each listed server but its own and for no other server, knows just the rooms that it was given, and
+/// keeps no reply.
 pub fn what_a_new_inbox_knows()
     ensures logs { (own : List ℕ) (servers rooms : List (List ℕ)) (server : List ℕ)
         → log_at server (new_inbox own servers rooms).logs ≡ log_of_new own servers server }
     ensures rooms { (own : List ℕ) (servers rooms : List (List ℕ)) (room : List ℕ)
         → is_one_of (new_inbox own servers rooms).rooms room ≡ is_one_of rooms room }
+    ensures replies { (own : List ℕ) (servers rooms : List (List ℕ)) (origin txn : List ℕ)
+        → kept_reply (new_inbox own servers rooms) origin txn ≡ None }
 {}
 
 /// The verdict under an id is the one on the first object of that id, and none stands under another id.
@@ -25,19 +30,29 @@ pub fn the_first_of_an_id_decides()
         ≡ option_map (verdict_on checks rooms) (find (has_id id) elements) }
 {}
 
+/// What one more request at the end of a list of requests adds to their answers, to their state and to what they bring for the rooms.
+pub fn what_one_more_request_adds()
+    ensures answer { (checks : Checks) (inbox : InboxState) (asked : List Asked) (one : Asked)
+        → answers checks inbox (asked ++ one ∷ []) ≡ answers checks inbox asked ++ marked_answer checks (after_all checks inbox asked) one.0 one.1 ∷ [] }
+    ensures state { (checks : Checks) (inbox : InboxState) (asked : List Asked) (one : Asked)
+        → after_all checks inbox (asked ++ one ∷ []) ≡ marked_after checks (after_all checks inbox asked) one.0 one.1 }
+    ensures fresh { (checks : Checks) (inbox : InboxState) (asked : List Asked) (one : Asked)
+        → fresh_all checks inbox (asked ++ one ∷ []) ≡ fresh_all checks inbox asked ++ marked_fresh checks (after_all checks inbox asked) one.0 one.1 }
+{}
+
 /// A kept reply stays, whatever comes after it.
 pub fn kept_replies_stay()
-    ensures { (checks : Checks) (inbox : InboxState) (requests : List Request) (marks : List Bool) (origin txn reply : List ℕ)
+    ensures { (checks : Checks) (inbox : InboxState) (asked : List Asked) (origin txn reply : List ℕ)
         → kept_reply inbox origin txn ≡ Some reply
-        → kept_reply (after_all checks inbox requests marks) origin txn ≡ Some reply }
+        → kept_reply (after_all checks inbox asked) origin txn ≡ Some reply }
 {}
 
 /// What was taken from an origin only grows at its end.
 pub fn taken_grows()
-    ensures pdus { (checks : Checks) (inbox : InboxState) (requests : List Request) (marks : List Bool) (origin : List ℕ)
-        → (more : List (List ℕ)) × (taken_of (after_all checks inbox requests marks) origin ≡ taken_of inbox origin ++ more) }
-    ensures edus { (checks : Checks) (inbox : InboxState) (requests : List Request) (marks : List Bool) (origin : List ℕ)
-        → (more : List (List ℕ)) × (taken_edus_of (after_all checks inbox requests marks) origin ≡ taken_edus_of inbox origin ++ more) }
+    ensures pdus { (checks : Checks) (inbox : InboxState) (asked : List Asked) (origin : List ℕ)
+        → (more : List (List ℕ)) × (taken_of (after_all checks inbox asked) origin ≡ taken_of inbox origin ++ more) }
+    ensures edus { (checks : Checks) (inbox : InboxState) (asked : List Asked) (origin : List ℕ)
+        → (more : List (List ℕ)) × (taken_edus_of (after_all checks inbox asked) origin ≡ taken_edus_of inbox origin ++ more) }
 {}
 
 /// A request of one origin changes neither what was taken from another nor its kept replies.
@@ -50,8 +65,47 @@ pub fn origins_are_apart()
         → kept_reply (marked_after checks inbox request found) other txn ≡ kept_reply inbox other txn }
 {}
 
-/// A transaction that a reply is kept for is not taken again, and changes nothing.
-pub fn repeats_take_nothing()
-    ensures { (checks : Checks) (inbox : InboxState) (request : Request) (reply : List ℕ)
-        → kept_reply inbox request.origin request.txn ≡ Some reply → after checks inbox request ≡ inbox }
+/// The body of a 200 is the reply that is kept from then on. Where none was kept before, all that the body brings is taken.
+pub fn a_200_is_kept()
+    ensures kept { (checks : Checks) (inbox : InboxState) (request : Request) (found : Bool)
+        → (marked_answer checks inbox request found).status ≡ 200
+        → kept_reply (marked_after checks inbox request found) request.origin request.txn ≡ Some (marked_answer checks inbox request found).body }
+    ensures taken { (checks : Checks) (inbox : InboxState) (request : Request) (found : Bool)
+        → (marked_answer checks inbox request found).status ≡ 200 → kept_reply inbox request.origin request.txn ≡ None
+        → Takes checks inbox request found }
+{}
+
+/// A reply that is kept after some requests, and was not before them, was the body of a 200 to one of them.
+pub fn what_is_kept_was_answered()
+    ensures { (checks : Checks) (inbox : InboxState) (asked : List Asked) (origin txn reply : List ℕ)
+        → kept_reply inbox origin txn ≡ None → kept_reply (after_all checks inbox asked) origin txn ≡ Some reply
+        → WasAnswered checks inbox asked origin txn (accepted reply) }
+{}
+
+/// A transaction that a reply is kept for gets it, or a refusal that is told before a kept reply is looked for, or 500.
+pub fn repeats_get_the_kept_reply()
+    ensures { (checks : Checks) (inbox : InboxState) (request : Request) (found : Bool) (reply : List ℕ)
+        → kept_reply inbox request.origin request.txn ≡ Some reply
+        → IsRepeatAnswer reply (marked_answer checks inbox request found) }
+{}
+
+/// Nothing but a first 200 changes the state or brings anything for the rooms: no refusal does, and no repeat.
+pub fn only_a_first_200_changes()
+    ensures refused { (checks : Checks) (inbox : InboxState) (request : Request) (found : Bool)
+        → (marked_answer checks inbox request found).status ≢ 200 → marked_after checks inbox request found ≡ inbox }
+    ensures refused_brings_nothing { (checks : Checks) (inbox : InboxState) (request : Request) (found : Bool)
+        → (marked_answer checks inbox request found).status ≢ 200 → marked_fresh checks inbox request found ≡ [] }
+    ensures repeat { (checks : Checks) (inbox : InboxState) (request : Request) (found : Bool) (reply : List ℕ)
+        → kept_reply inbox request.origin request.txn ≡ Some reply → marked_after checks inbox request found ≡ inbox }
+    ensures repeat_brings_nothing { (checks : Checks) (inbox : InboxState) (request : Request) (found : Bool) (reply : List ℕ)
+        → kept_reply inbox request.origin request.txn ≡ Some reply → marked_fresh checks inbox request found ≡ [] }
+{}
+
+/// What requests bring for the rooms is checked under the keys, signed by its sender's server, and of a room that is known; of one request
+/// no two events have one id.
+pub fn what_the_rooms_get()
+    ensures all { (checks : Checks) (inbox : InboxState) (asked : List Asked)
+        → All (IsForRooms checks inbox.rooms) (fresh_all checks inbox asked) }
+    ensures apart { (checks : Checks) (inbox : InboxState) (request : Request) (found : Bool)
+        → AllPairs (λ one other. event_id_of one.event ≢ event_id_of other.event) (marked_fresh checks inbox request found) }
 {}

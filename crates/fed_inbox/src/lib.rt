@@ -23,8 +23,9 @@ mod verdict;
 
 pub use inbox::Inbox;
 pub use laws::{
-    kept_replies_stay, origins_are_apart, repeats_take_nothing, taken_grows,
-    the_first_of_an_id_decides, what_a_new_inbox_knows,
+    a_200_is_kept, kept_replies_stay, only_a_first_200_changes, origins_are_apart,
+    repeats_get_the_kept_reply, taken_grows, the_first_of_an_id_decides, what_a_new_inbox_knows,
+    what_is_kept_was_answered, what_one_more_request_adds, what_the_rooms_get,
 };
 pub use refusal::Refusal;
 pub use reply::Reply;
