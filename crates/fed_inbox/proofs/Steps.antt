@@ -1,5 +1,5 @@
 -- How a log is answered: by its step, or for want of memory.
-use Rattle.std.proofs.Common.{◌≡◌, ◌≢◌, ℕ, List, [], Result, Ok, Err, IsOk, IfErr, true, false, refl, sym, ap, ◌∙◌, ◌⊎◌, inl, inr, ◌<◌, length, get_or, set, Bool, if◌then◌else◌, Some, None}
+use Rattle.std.proofs.Common.{◌≡◌, ◌≢◌, ℕ, List, [], subst, Result, Ok, Err, IsOk, IfErr, true, false, refl, sym, ap, ◌∙◌, ◌⊎◌, inl, inr, ◌<◌, length, get_or, set, Bool, if◌then◌else◌, Some, None}
 use Rattle.std.specs.Prelude.{IsErrAnd}
 use Rattle.serde_json.specs.Data.{Data}
 use Rattle.fed_txn.specs.declared.fault.TxnFault.{TxnFault}
@@ -16,9 +16,9 @@ use Rattle.fed_event.specs.Checked.{CheckedEvent}
 use Rattle.fed_inbox.specs.declared.log.Accepted.{Accepted}
 use Rattle.fed_inbox.specs.Answer.{Request, Step, Steps, step_new, step_body, step_of, answer_by, logs_by, fresh_by, IsAnswered}
 use Rattle.fed_inbox.specs.AnswerParts.{answer_with, fresh_with}
-use Rattle.fed_inbox.specs.Inbox.{InboxState, is_of, log_at}
+use Rattle.fed_inbox.specs.Inbox.{InboxState, empty_log, is_of, log_at}
 use Rattle.std.specs.List.{position}
-use Rattle.std.proofs.lemmas.List.{set-get_or}
+use Rattle.std.proofs.lemmas.List.{set-get_or, get_or_default}
 use Rattle.fed_inbox.proofs.Places.{log_found, place_is, set-with_log}
 
 answer_of_err : (r : Result Accepted Refusal) (x : Refusal) → IsErrAnd r (λ y. y ≡ x) → answer_with r ≡ refused x
@@ -103,6 +103,21 @@ answered_at checks s request i old answer new fresh place within is h = by h.fou
       new_is = same_inbox (ap (λ l. set s.logs i l) (h.log_is ∙ ap (λ f. if f then step.log else old) e) ∙ set_own s.logs i old is);
       fresh_is = h.fresh_is ∙ ap (λ f. if f then step.fresh else []) e;
     }
+
+-- a refusal before the log is asked
+pub refused_at : (checks : Checks) (s : InboxState) (request : Request) (i : ℕ) (r : Result Accepted Refusal) → Some i ≡ position (is_of request.origin) s.logs → i < length s.logs
+    → ((old : LogState) → Steps old (step_of checks s.rooms old request) (answer_with r) old (fresh_with r)) → IsAnswered checks s request (answer_with r) s (fresh_with r)
+refused_at checks s request i r place within steps =
+    let old = get_or s.logs i (empty_log []) in
+    let is : old ≡ get_or s.logs i old = get_or_default s.logs i (empty_log []) old within in
+    subst (λ (new : InboxState). IsAnswered checks s request (answer_with r) new (fresh_with r)) (same_inbox (set_own s.logs i old is))
+    (answered_at checks s request i old (answer_with r) old (fresh_with r) place within is (steps old))
+
+pub not_there : (o : List ℕ) (ls : List LogState) (i : ℕ) → Some i ≡ position (is_of o) ls → i < length ls → log_at o ls ≡ None → ⊥
+not_there o ls i place within none =
+    let old = get_or ls i (empty_log []) in
+    let found : log_at o ls ≡ Some old = log_found o ls i old place within (get_or_default ls i (empty_log []) old within) in
+    absurd (cc)
 
 pub answered_nobody : (checks : Checks) (s : InboxState) (request : Request) → log_at request.origin s.logs ≡ None → IsAnswered checks s request (refused ServerNotListed) s []
 answered_nobody checks s request none = record {

@@ -14,7 +14,7 @@ use crate::reply::Reply;
 use crate::rooms::Rooms;
 use fed_event::{Checked, Keys};
 use fed_json::NoMemory;
-use fed_txn::MAX_BODY;
+use fed_txn::{MAX_BODY, read_body};
 use std::alloc::Global;
 use std::marker::Model;
 
@@ -162,10 +162,11 @@ impl Inbox {
         ensures large { IsSome (log_at origin.now self.old.state.logs) → MAX_BODY < length body.now
             → result ≡ Err Refusal.BodyTooLarge }
     {
-        match self.place(origin) {
-            Some(place) => self.logs[place].answer(alloc, txn, body, &self.rooms, keys),
-            None => Err(Refusal::ServerNotListed),
-        }
+        let Some(place) = self.place(origin) else {
+            return Err(Refusal::ServerNotListed);
+        };
+        let body = read_body(alloc, body)?;
+        self.logs[place].answer(alloc, txn, body, &self.rooms, keys)
     }
 
     // Where the log of an origin lies.

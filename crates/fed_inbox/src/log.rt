@@ -1,11 +1,10 @@
 // What was taken from one origin.
-ghost use Rattle.std.specs.Prelude.{◌≡◌, ◌<◌, Err, length, string_bytes, option_map, OnOk, OnErr, IfOk};
+ghost use Rattle.std.specs.Prelude.{◌≡◌, Ok, string_bytes, option_map, OnOk, OnErr, IfOk};
 ghost use Rattle.std.specs.FinMap as finite;
 ghost use Rattle.fed_inbox.specs.LogParts.{texts_of};
 ghost use Rattle.fed_inbox.specs.Inbox.{empty_log};
 ghost use Rattle.fed_inbox.specs.Answer.{with_taking, names_other};
 ghost use Rattle.fed_inbox.specs.AnswerParts.{IsStep, IsNewStep, taken_by};
-ghost use Rattle.fed_txn.specs.Reading.{body_of};
 ghost use Rattle.fed_txn.specs.Transaction.{transaction_of};
 ghost use Rattle.fed_inbox.specs.OutcomeParts.{taking};
 
@@ -14,7 +13,7 @@ use crate::refusal::Refusal;
 use crate::rooms::Rooms;
 use fed_event::{Checked, Keys};
 use fed_json::{Json, NoMemory};
-use fed_txn::{MAX_BODY, TransactionIn, read_body};
+use fed_txn::TransactionIn;
 use std::alloc::Global;
 use std::collections::BTreeMap;
 use std::marker::Model;
@@ -88,19 +87,17 @@ impl Log {
         self.replies.get(txn)
     }
 
-    /// Answers a transaction of this origin. A refusal that memory ran out leaves the log as it was.
+    /// Answers a transaction of this origin, whose body is this value. A refusal that memory ran out leaves the log as it was.
     pub(crate) fn answer<K: Keys>(
         &mut self,
         alloc: Global,
         txn: &str,
-        body: &[u8],
+        body: Json,
         rooms: &Rooms,
         keys: &K,
     ) -> Result<Accepted, Refusal>
-        ensures step { IsStep (K.checks keys.now) rooms.now self.old txn.now (body_of body.now) result self.new }
-        ensures large { MAX_BODY < length body.now → result ≡ Err Refusal.BodyTooLarge }
+        ensures { IsStep (K.checks keys.now) rooms.now self.old txn.now (Ok body) result self.new }
     {
-        let body = read_body(alloc, body)?;
         if names_other_origin(&body, self.origin()) {
             return Err(Refusal::OriginDiffers);
         }
