@@ -1,3 +1,4 @@
+pub mod TextLists
 pub mod Logs
 pub mod Places
 pub mod Steps

@@ -2,6 +2,8 @@ pub mod Refusal
 pub mod Reply
 pub mod ReplyParts
 pub mod Log
+pub mod TextList
+pub mod Taken
 pub mod LogParts
 pub mod Rooms
 pub mod Taking

@@ -2,7 +2,7 @@
 ghost use Rattle.std.specs.Prelude.{◌≡◌, ◌<◌, [], None, Err, map, length, position, string_bytes, IfOk, IfSome, IsSome};
 ghost use Rattle.std.specs.List.{list_any};
 ghost use Rattle.fed_event.specs.Names.{is_one_of};
-ghost use Rattle.fed_inbox.specs.LogParts.{texts_of};
+ghost use Rattle.fed_inbox.specs.Taken.{taken_left};
 ghost use Rattle.fed_inbox.specs.Reply.{refused};
 ghost use Rattle.fed_inbox.specs.Inbox.{new_held, with_servers, is_of, is_new, log_at, taken_of, taken_edus_of};
 ghost use Rattle.fed_inbox.specs.Answer.{IsAnswered, request_of};
@@ -12,6 +12,7 @@ use crate::log::{Accepted, Log};
 use crate::refusal::Refusal;
 use crate::reply::Reply;
 use crate::rooms::Rooms;
+use crate::taken::Taken;
 use fed_event::{Checked, Keys};
 use fed_json::NoMemory;
 use fed_txn::{MAX_BODY, read_body};
@@ -127,23 +128,23 @@ impl Inbox {
         std::mem::replace(&mut self.fresh, Vec::new(alloc))
     }
 
-    /// The canonical texts of the PDUs taken from an origin, in order.
-    pub fn taken(&self, origin: &str) -> &[Vec<u8>]
-        ensures { texts_of result.now ≡ taken_of self.now.state origin.now }
+    /// The canonical texts of the PDUs taken from an origin, in order, one after another. It takes no memory.
+    pub fn taken(&self, origin: &str) -> Taken<'_>
+        ensures { taken_left result ≡ taken_of self.now.state origin.now }
     {
         match self.place(origin) {
             Some(place) => self.logs[place].pdus(),
-            None => &[],
+            None => Taken::of(&[]),
         }
     }
 
-    /// The canonical texts of the EDUs taken from an origin, in order.
-    pub fn taken_edus(&self, origin: &str) -> &[Vec<u8>]
-        ensures { texts_of result.now ≡ taken_edus_of self.now.state origin.now }
+    /// The canonical texts of the EDUs taken from an origin, in order, one after another. It takes no memory.
+    pub fn taken_edus(&self, origin: &str) -> Taken<'_>
+        ensures { taken_left result ≡ taken_edus_of self.now.state origin.now }
     {
         match self.place(origin) {
             Some(place) => self.logs[place].edus(),
-            None => &[],
+            None => Taken::of(&[]),
         }
     }
 

@@ -5,6 +5,8 @@
 //! - `log`: what was taken from one origin, and the replies kept for it
 //! - `outcome`: what taking a transaction comes to: the texts of its elements, the events for the rooms and its reply
 //! - `received`, `verdict`: the verdicts on its events, each with its fault or handed on
+//! - `text_list`: texts that are kept in one piece
+//! - `taken`: `Taken`, the texts taken from an origin, one after another
 //! - `rooms`: the rooms that the server knows
 //! - `reply`: `Reply`, a status and a body
 //! - `laws`: what holds of all inboxes and all lists of requests
@@ -19,6 +21,8 @@ mod received;
 mod refusal;
 mod reply;
 mod rooms;
+mod taken;
+mod text_list;
 mod verdict;
 
 pub use inbox::Inbox;
@@ -29,3 +33,4 @@ pub use laws::{
 };
 pub use refusal::Refusal;
 pub use reply::Reply;
+pub use taken::Taken;

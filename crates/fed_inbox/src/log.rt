@@ -1,7 +1,7 @@
 // What was taken from one origin.
 ghost use Rattle.std.specs.Prelude.{◌≡◌, Ok, string_bytes, option_map, OnOk, OnErr, IfOk};
 ghost use Rattle.std.specs.FinMap as finite;
-ghost use Rattle.fed_inbox.specs.LogParts.{texts_of};
+ghost use Rattle.fed_inbox.specs.Taken.{taken_left};
 ghost use Rattle.fed_inbox.specs.Inbox.{empty_log};
 ghost use Rattle.fed_inbox.specs.Answer.{with_taking, names_other};
 ghost use Rattle.fed_inbox.specs.AnswerParts.{IsStep, IsNewStep, taken_by};
@@ -11,6 +11,8 @@ ghost use Rattle.fed_inbox.specs.OutcomeParts.{taking};
 use crate::outcome::Outcome;
 use crate::refusal::Refusal;
 use crate::rooms::Rooms;
+use crate::taken::Taken;
+use crate::text_list::TextList;
 use fed_event::{Checked, Keys};
 use fed_json::{Json, NoMemory};
 use fed_txn::TransactionIn;
@@ -30,8 +32,8 @@ pub(crate) struct Accepted {
 pub(crate) struct Log {
     origin: String,
     replies: BTreeMap<String, Vec<u8>>,
-    pdus: Vec<Vec<u8>>,
-    edus: Vec<Vec<u8>>,
+    pdus: Vec<TextList>,
+    edus: Vec<TextList>,
 }
 
 impl Model for Log {
@@ -68,16 +70,16 @@ impl Log {
         self.origin.as_str()
     }
 
-    pub(crate) fn pdus(&self) -> &[Vec<u8>]
-        ensures { texts_of result.now ≡ self.now.pdus }
+    pub(crate) fn pdus(&self) -> Taken<'_>
+        ensures { taken_left result ≡ self.now.pdus }
     {
-        self.pdus.as_slice()
+        Taken::of(&self.pdus)
     }
 
-    pub(crate) fn edus(&self) -> &[Vec<u8>]
-        ensures { texts_of result.now ≡ self.now.edus }
+    pub(crate) fn edus(&self) -> Taken<'_>
+        ensures { taken_left result ≡ self.now.edus }
     {
-        self.edus.as_slice()
+        Taken::of(&self.edus)
     }
 
     /// The reply that is kept for a transaction.
@@ -140,18 +142,19 @@ impl Log {
         ensures err { OnErr result (self.new ≡ self.old) }
     {
         let Outcome {
-            mut pdus,
-            mut edus,
+            pdus,
+            edus,
             fresh,
             reply,
         } = outcome;
         let answer = Vec::from_slice(alloc, &reply)?;
         let number = String::from_str(alloc, txn)?;
-        self.pdus.reserve(pdus.len())?;
-        self.edus.reserve(edus.len())?;
+        self.pdus.reserve(1)?;
+        self.edus.reserve(1)?;
         drop(self.replies.insert(number, reply)?);
-        self.pdus.append(&mut pdus).unwrap();
-        self.edus.append(&mut edus).unwrap();
+        // There is room for both.
+        self.pdus.push(pdus).unwrap();
+        self.edus.push(edus).unwrap();
         Ok(Accepted {
             reply: answer,
             fresh,

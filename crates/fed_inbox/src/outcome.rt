@@ -2,12 +2,12 @@
 ghost use Rattle.std.specs.Prelude.{◌≡◌, map, filter, IfOk};
 ghost use Rattle.fed_json.specs.CanonicalText.{canonical_text};
 ghost use Rattle.fed_txn.specs.Transaction.{parts};
-ghost use Rattle.fed_inbox.specs.LogParts.{texts_of};
 ghost use Rattle.fed_inbox.specs.OutcomeParts.{taking};
 ghost use Rattle.fed_inbox.specs.Taking.{taking_of, is_edu};
 
 use crate::received::Received;
 use crate::rooms::Rooms;
+use crate::text_list::TextList;
 use fed_event::{Checked, Keys, Texts};
 use fed_json::{Json, NoMemory, canonical};
 use fed_txn::{TransactionIn, write_reply};
@@ -16,8 +16,8 @@ use std::alloc::Global;
 /// The canonical texts of what is taken, in order, the events that are handed on to the rooms, and the text of the reply.
 #[derive(Drop)]
 pub(crate) struct Outcome {
-    pub(crate) pdus: Vec<Vec<u8>>,
-    pub(crate) edus: Vec<Vec<u8>>,
+    pub(crate) pdus: TextList,
+    pub(crate) edus: TextList,
     pub(crate) fresh: Vec<Checked>,
     pub(crate) reply: Vec<u8>,
 }
@@ -40,13 +40,12 @@ impl Outcome {
             ..
         } = transaction;
         let mut received = Received::new(alloc);
-        let mut pdus = Vec::with_capacity(alloc, elements.len())?;
+        let mut pdus = TextList::new(alloc);
         let mut texts = Texts::new(alloc);
         for element in elements {
             texts = texts.rewritten(alloc, &element)?;
             received.enter(alloc, element, &texts, rooms, keys)?;
-            let text = Vec::from_slice(alloc, texts.whole())?;
-            pdus.push(text)?;
+            pdus.push(texts.whole())?;
         }
         let Received { verdicts, fresh } = received;
         let edus = edu_texts(alloc, &edus)?;
@@ -61,14 +60,13 @@ impl Outcome {
 }
 
 // The texts of the elements that are EDUs; others are dropped.
-fn edu_texts(alloc: Global, elements: &Vec<Json>) -> Result<Vec<Vec<u8>>, NoMemory>
-    ensures { IfOk result (λ v. texts_of v.items
-        ≡ map canonical_text (filter is_edu elements.now.items)) }
+fn edu_texts(alloc: Global, elements: &Vec<Json>) -> Result<TextList, NoMemory>
+    ensures { IfOk result (λ texts. texts ≡ map canonical_text (filter is_edu elements.now.items)) }
 {
-    let mut texts = Vec::new(alloc);
+    let mut texts = TextList::new(alloc);
     for element in elements {
         if is_edu(element) {
-            texts.push(canonical(alloc, element)?)?;
+            texts.push(&canonical(alloc, element)?)?;
         }
     }
     Ok(texts)

@@ -10,4 +10,4 @@ returns-in-Some c =
     c.edus.ensures ∙ ap edus_by (sym found)
 
 pub returns-in-None : goal.returns-in-None
-returns-in-None c = ap edus_by (sym (log_missing c.args.origin.now c.args.self.now.state.logs c.in-None.ensures.place))
+returns-in-None c = c.of.ensures ∙ ap edus_by (sym (log_missing c.args.origin.now c.args.self.now.state.logs c.in-None.ensures.place))

@@ -4,10 +4,8 @@ use Rattle.std.specs.FinMap as finite
 use Rattle.fed_json.specs.CanonicalText.{canonical_text}
 use Rattle.fed_event.specs.Checked.{CheckedEvent}
 use Rattle.fed_txn.specs.Reply.{reply_value}
-use Rattle.fed_inbox.specs.LogParts.{texts_of}
 use Rattle.fed_inbox.specs.Taking.{Taking}
 use Rattle.fed_inbox.specs.ReceivedParts.{received}
-use Rattle.fed_inbox.proofs.Logs.{texts_of-append}
 use Rattle.fed_inbox.proofs.Entering.{Enters, enters_first, enters_next, enters_last}
 use Rattle.fed_inbox.proofs.outcome.Outcome.of.Goals as goal
 
@@ -23,7 +21,7 @@ loop-element-init g c =
     let left = c.into_iter-element-iterator.result.rest.items in
     let gives : left ≡ all = c.into_iter-element-iterator.ensures.into_iter_gives.0 in
     record {
-      texts = ap (λ v. texts_of v ++ map canonical_text left) c.in_ok-pdus.ensures.items ∙ ap (map canonical_text) gives;
+      texts = ap (λ v. v ++ map canonical_text left) c.new-pdus.ensures ∙ ap (map canonical_text) gives;
       entered = subst (λ r. Enters checks rooms r left all) (sym c.new-received.ensures) (subst (λ l. Enters checks rooms (finite.empty, []) l all) (sym gives) (enters_first checks rooms all));
     }
 
@@ -33,14 +31,13 @@ loop-element-preserved g c =
     let rooms = c.args.rooms.now in
     let all = c.args.transaction.pdus.items in
     let left = c.next.new.self.rest.items in
-    let before = c.loop-element.pdus.items in
+    let before = c.loop-element.pdus in
     let here : c.loop-element.element-iterator.rest.items ≡ c.in-Some.element ∷ left = search rules in
     record {
-      texts = ap (λ v. texts_of v ++ map canonical_text left) c.in_ok-push.ensures.items
-          ∙ ap (λ t. t ++ map canonical_text left) (texts_of-append before (c.in_ok-text.text ∷ []))
-          ∙ append_assoc (texts_of before) (c.in_ok-text.text.items ∷ []) (map canonical_text left)
-          ∙ ap (λ text. texts_of before ++ text ∷ map canonical_text left) (c.in_ok-text.ensures.items ∙ c.whole.ensures ∙ ap (λ t. t.whole) c.in_ok-texts.ensures)
-          ∙ ap (λ elements. texts_of before ++ map canonical_text elements) (sym here)
+      texts = ap (λ v. v ++ map canonical_text left) c.in_ok-push.ensures
+          ∙ append_assoc before (c.whole.result.now ∷ []) (map canonical_text left)
+          ∙ ap (λ text. before ++ text ∷ map canonical_text left) (c.whole.ensures ∙ ap (λ t. t.whole) c.in_ok-texts.ensures)
+          ∙ ap (λ elements. before ++ map canonical_text elements) (sym here)
           ∙ c.loop-element.invariant.texts;
       entered = subst (λ r. Enters checks rooms r left all) (sym c.in_ok-enter.ensures)
           (enters_next checks rooms (received c.loop-element.received) c.in-Some.element left all (subst (λ l. Enters checks rooms (received c.loop-element.received) l all) here c.loop-element.invariant.entered));
@@ -51,7 +48,7 @@ returns g c =
     let checks = g.K.Keys.checks c.args.keys.now in
     let rooms = c.args.rooms.now in
     let all = c.args.transaction.pdus.items in
-    let texts = texts_of c.loop-element.pdus.items in
+    let texts = c.loop-element.pdus in
     let none_left : length c.loop-element.element-iterator.rest.items ≡ 0 = search rules in
     let nothing = nil_from_length c.loop-element.element-iterator.rest.items none_left in
     let ended = enters_last checks rooms (received c.loop-element.received) all (subst (λ l. Enters checks rooms (received c.loop-element.received) l all) nothing c.loop-element.invariant.entered) in
