@@ -5,7 +5,7 @@ ghost use Rattle.fed_inbox.specs.ReceivedParts.{after_element, received};
 ghost use Rattle.std.specs.FinMap as finite;
 
 use crate::rooms::Rooms;
-use crate::verdict::{Fault, judged};
+use crate::verdict::judged;
 use fed_event::{Checked, Keys, Texts, event_id_of_signed};
 use fed_json::{Json, NoMemory};
 use fed_txn::Verdicts;
@@ -50,12 +50,11 @@ impl Received {
             return Ok(());
         }
         let key = String::from_str(alloc, id.as_str())?;
-        match judged(alloc, element, texts, id, rooms, keys) {
+        match judged(alloc, element, texts, id, rooms, keys)? {
             Ok(event) => {
                 self.verdicts.insert(key, None)?;
                 self.fresh.push(event)?;
             }
-            Err(Fault::Memory) => return Err(NoMemory),
             Err(fault) => self.verdicts.insert(key, Some(fault.verdict_text(alloc)?))?,
         }
         Ok(())
