@@ -6,7 +6,7 @@ ghost use Rattle.fed_json.specs.CanonicalText.{canonical_text};
 ghost use Rattle.fed_json.specs.Items.{left};
 ghost use Rattle.fed_json.specs.JsonRef.{seen};
 ghost use Rattle.fed_event.specs.Ids.{is_id_text};
-ghost use Rattle.fed_event.specs.Tests.{part, has_kind, is_text, is_array_of_texts, is_id, most, fails, first_fault_of, needed_fields, all_fields, measured_fields, counted_fields, missing_tests, kind_tests, length_tests, count_tests};
+ghost use Rattle.fed_event.specs.Tests.{part, has_kind, is_text, is_array_of_texts, is_id, most, fails, first_fault_of, needed_fields, all_fields, measured_fields, counted_fields, shape_tests, text_tests, missing_tests, kind_tests, length_tests, count_tests};
 
 use crate::fault::PduFault;
 use crate::field::Field;
@@ -58,19 +58,37 @@ const MEASURED: [Field; 4] = [Field::RoomId, Field::Sender, Field::StateKey, Fie
 
 const COUNTED: [Field; 2] = [Field::AuthEvents, Field::PrevEvents];
 
-/// The first of a `Pdu`'s tests that a value fails, whose canonical text has `size` bytes.
+/// The first of a `Pdu`'s tests that a value fails, whose canonical text has `text_len` bytes.
 #[tactic(auto, unfolding(crate::specs::Tests::first_fault_of))]
-pub fn first_fault(event: &Json, size: usize) -> Option<PduFault>
-    requires { size ≡ length (canonical_text event.now) }
+pub fn first_fault(event: &Json, text_len: usize) -> Option<PduFault>
+    requires { text_len ≡ length (canonical_text event.now) }
     ensures { result ≡ first_fault_of event.now }
 {
+    match shape_fault(event) {
+        Some(fault) => Some(fault),
+        None => text_fault(event, text_len),
+    }
+}
+
+// The first of the tests that the value fails, of those that look at none of its texts.
+pub(crate) fn shape_fault(event: &Json) -> Option<PduFault>
+    ensures { result ≡ find (fails event.now) shape_tests }
+{
     if event.depth() > MAX_DEPTH {
-        return Some(PduFault::TooDeep);
+        Some(PduFault::TooDeep)
+    } else if !event.is_object() {
+        Some(PduFault::WrongKind(Field::Event))
+    } else {
+        None
     }
-    if !event.is_object() {
-        return Some(PduFault::WrongKind(Field::Event));
-    }
-    if size > MAX_SIZE {
+}
+
+// The first of the other tests that the value fails.
+pub(crate) fn text_fault(event: &Json, text_len: usize) -> Option<PduFault>
+    requires { text_len ≡ length (canonical_text event.now) }
+    ensures { result ≡ find (fails event.now) text_tests }
+{
+    if text_len > MAX_SIZE {
         return Some(PduFault::TooLarge);
     }
     field_fault(event)
