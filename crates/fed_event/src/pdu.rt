@@ -1,8 +1,8 @@
 // Events that have passed the tests.
-ghost use Rattle.std.specs.Prelude.{◌≡◌, ◌≢◌, Some, None, Ok, Err, find, IfOk, IfErr, IsOk, IsErr, IsSome, IsNone, IsOkUnless};
+ghost use Rattle.std.specs.Prelude.{◌≡◌, ◌≢◌, true, Some, None, Ok, Err, find, IfOk, IfErr, IsOk, IsErr, IsSome, IsNone, IsOkUnless};
 ghost use Rattle.fed_event.specs.declared.field.Field.TheVariants.{Event};
 ghost use Rattle.fed_event.specs.declared.fault.PduFault.TheVariants.{Memory, WrongKind, TooDeep};
-ghost use Rattle.fed_redaction.specs.EventId.{event_id_of};
+ghost use Rattle.fed_redaction.specs.EventId.{signed_text_of, event_id_of};
 ghost use Rattle.fed_event.specs.Reading.{read_of};
 ghost use Rattle.fed_redaction.specs.ContentHash.{hash_fits_of};
 ghost use Rattle.fed_redaction.specs.Texts.{event_texts};
@@ -10,8 +10,8 @@ ghost use Rattle.fed_redaction.specs.Redaction.{redacted};
 ghost use Rattle.fed_event.specs.Tests.{fails, shape_tests, first_fault_of};
 
 use crate::fault::PduFault;
-use crate::validity::{shape_fault, text_fault};
-use fed_json::{Json, JsonFault, MAX_LEVELS, NoMemory, read_within};
+use crate::validity::{first_fault, shape_fault, text_fault};
+use fed_json::{Json, JsonFault, MAX_LEVELS, NoMemory, canonical, read_within};
 use fed_redaction::{EventId, Texts, covered_text, event_id_of_signed, hash_fits, redact};
 use std::alloc::Global;
 use std::marker::Model;
@@ -131,6 +131,26 @@ impl Pdu {
             json,
             id,
             hash_fits,
+        })
+    }
+
+    // The event that a value is, whose signed text is `signed` and whose content hash fits where it is an event.
+    pub(crate) fn of_fitting(alloc: Global, json: Json, signed: &[u8]) -> Result<Pdu, PduFault>
+        requires signed { signed.now ≡ signed_text_of json }
+        requires fits { first_fault_of json ≡ None → hash_fits_of json ≡ true }
+        ensures ok { IfOk result (λ p. p ≡ json) }
+        ensures passes { IfOk result (λ _. first_fault_of json ≡ None) }
+        ensures fails { IfErr result (λ e. e ≢ Memory → first_fault_of json ≡ Some e) }
+    {
+        let text = canonical(alloc, &json)?;
+        if let Some(fault) = first_fault(&json, text.len()) {
+            return Err(fault);
+        }
+        let id = event_id_of_signed(alloc, signed)?;
+        Ok(Pdu {
+            json,
+            id,
+            hash_fits: true,
         })
     }
 

@@ -12,5 +12,4 @@ returns-clause-decodes g c =
     let size : length bytes ≡ 64 = omega arith in
     let decodes = decoded-encoded c.encode.result bytes size c.encode.ensures.text (c.encode.ensures.round_trip refl) in
     let P : List ℕ → Type 0 = λ b. OnOk c.encode.result (signature_in (string (encode_of standard_no_pad b)) ≡ Some b) in
-    let message = c.deref.ensures.value ∙ c.in_ok-signed_text.ensures in
-    subst P (c.sign-signature.ensures ∙ ap (g.K.Keys.own_signature c.args.keys.now) message) decodes
+    subst P c.sign-signature.ensures decodes
