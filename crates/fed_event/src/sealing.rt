@@ -45,7 +45,8 @@ fn sender(event: &Json) -> Option<&str>
 ///
 /// # Errors
 ///
-/// Those of `Pdu::of_json` on the event with its hash and signature, `Memory` in the place of any where memory ran out. Where `parts` is no object, it is left as it is.
+/// Those of `Pdu::of_json` on the event with its hash and signature, where `Memory` may come in the place of each other one. Where
+/// `parts` is no object, it is left as it is.
 pub fn seal<K: Keys>(alloc: Global, parts: Json, keys: &K) -> Result<Checked, PduFault>
     requires { IsSentBy (K.own_name keys.now) parts }
     ensures event { let sealed = sealed_of (K.own_name keys.now) (K.own_key keys.now) (K.own_signature keys.now) parts in
