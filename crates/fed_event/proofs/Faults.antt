@@ -1,14 +1,14 @@
 -- The first test that fails, and what a value that fails none is.
-use Rattle.std.proofs.Common.{◌≡◌, ◌≢◌, ℕ, zero, suc, List, [], ◌∷◌, ◌++◌, Bool, true, false, not, cond, Option, Some, None, IsSome, IsNone, is_none, option_map, unwrap_or, map, find, slice_get, Result, Ok, Err, IsErr, IfOk, IfErr, IsOkUnless, IsTrue, refl, sym, ◌∙◌, ap, subst, true≢false}
+use Rattle.std.proofs.Common.{◌≡◌, ℕ, zero, suc, List, [], ◌∷◌, ◌++◌, Bool, true, false, not, cond, Option, Some, None, IsNone, is_none, option_map, unwrap_or, map, find, slice_get, Ok, Err, IsTrue, refl, sym, ◌∙◌, ap, true≢false}
 use Rattle.std.specs.Prelude.{is_some}
 use Rattle.serde_json.specs.Data.{Data, null}
 use Rattle.fed_event.specs.declared.field.Field.{Field}
 use Rattle.fed_event.specs.declared.field.Field.TheVariants.{Event, AuthEvents, Content, Depth, Hashes, OriginServerTs, PrevEvents, RoomId, Sender, Signatures, StateKey, «Type»}
 use Rattle.fed_event.specs.declared.fault.PduFault.{PduFault}
-use Rattle.fed_event.specs.declared.fault.PduFault.TheVariants.{Memory, Missing, WrongKind, TooDeep}
+use Rattle.fed_event.specs.declared.fault.PduFault.TheVariants.{Missing, WrongKind, TooDeep}
 use Rattle.fed_event.specs.Fields.{is_needed, value_at}
 use Rattle.fed_event.specs.Reading.{event_of}
-use Rattle.fed_event.specs.Tests.{part, holds, has_kind, fails, shape_tests, text_tests, all_tests, first_fault_of}
+use Rattle.fed_event.specs.Tests.{part, holds, has_kind, fails, shape_tests, later_tests, all_tests, first_fault_of}
 
 -- ---- groups of tests
 
@@ -73,11 +73,11 @@ kind_passed event field h needed = let both = passed_both event field h needed i
 
 pub first-shape : (event : Data) (fault : PduFault) → find (fails event) shape_tests ≡ Some fault → first_fault_of event ≡ Some fault
 unfolding first_fault_of
-first-shape event fault h = find_in_group (fails event) (λ test. test) shape_tests text_tests fault h
+first-shape event fault h = find_in_group (fails event) (λ test. test) shape_tests later_tests fault h
 
-pub first-text : (event : Data) → find (fails event) shape_tests ≡ None → first_fault_of event ≡ find (fails event) text_tests
+pub first-later : (event : Data) → find (fails event) shape_tests ≡ None → first_fault_of event ≡ find (fails event) later_tests
 unfolding first_fault_of
-first-text event h = find_past_group (fails event) (λ test. test) shape_tests text_tests h
+first-later event h = find_past_group (fails event) (λ test. test) shape_tests later_tests h
 
 found_fails : {X : Type 0} (test : X → Bool) (xs : List X) (x : X) → find test xs ≡ Some x → test x ≡ true
 found_fails test [] x h = absurd (cc)

@@ -29,7 +29,7 @@ all_fields = AuthEvents ∷ Content ∷ Depth ∷ Hashes ∷ OriginServerTs ∷ 
 
 -- ---- the order
 
--- these two look at none of the value's texts, the others at its canonical text or at its fields
+-- the depth, and whether it is an object
 abbrev pub shape_tests : List PduFault
 shape_tests = TooDeep ∷ WrongKind Event ∷ []
 
@@ -52,12 +52,13 @@ length_tests = map TooLong measured_fields
 abbrev pub count_tests : List PduFault
 count_tests = map TooMany counted_fields
 
-abbrev pub text_tests : List PduFault
-text_tests = TooLarge ∷ (missing_tests ++ (kind_tests ++ (length_tests ++ count_tests)))
+-- the size, and then the fields
+abbrev pub later_tests : List PduFault
+later_tests = TooLarge ∷ (missing_tests ++ (kind_tests ++ (length_tests ++ count_tests)))
 
 -- every test that a value can fail, the first one first; bytes have to be JSON and canonical before that
 abbrev pub all_tests : List PduFault
-all_tests = shape_tests ++ text_tests
+all_tests = shape_tests ++ later_tests
 
 -- ---- the tests
 

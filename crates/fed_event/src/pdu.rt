@@ -10,7 +10,7 @@ ghost use Rattle.fed_redaction.specs.Redaction.{redacted};
 ghost use Rattle.fed_event.specs.Tests.{fails, shape_tests, first_fault_of};
 
 use crate::fault::PduFault;
-use crate::validity::{first_fault, shape_fault, text_fault};
+use crate::validity::{first_fault, later_fault, shape_fault};
 use fed_json::{Json, JsonFault, MAX_LEVELS, NoMemory, canonical, read_within};
 use fed_redaction::{EventId, Texts, covered_text, event_id_of_signed, hash_fits, redact};
 use std::alloc::Global;
@@ -123,7 +123,7 @@ impl Pdu {
         ensures passes { IfOk result (λ _. first_fault_of json ≡ None) }
         ensures fails { IfErr result (λ e. first_fault_of json ≡ Some e) }
     {
-        if let Some(fault) = text_fault(&json, texts.whole().len()) {
+        if let Some(fault) = later_fault(&json, texts.whole().len()) {
             return Err(fault);
         }
         let hash_fits = hash_fits(&json, texts.covered());

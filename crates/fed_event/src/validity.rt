@@ -6,7 +6,7 @@ ghost use Rattle.fed_json.specs.CanonicalText.{canonical_text};
 ghost use Rattle.fed_json.specs.Items.{left};
 ghost use Rattle.fed_json.specs.JsonRef.{seen, as_items};
 ghost use Rattle.fed_event.specs.Ids.{is_id_text};
-ghost use Rattle.fed_event.specs.Tests.{part, has_kind, is_text, is_array_of_texts, is_id, holds, fails, first_fault_of, needed_fields, all_fields, measured_fields, counted_fields, shape_tests, text_tests, missing_tests, kind_tests, length_tests, count_tests};
+ghost use Rattle.fed_event.specs.Tests.{part, has_kind, is_text, is_array_of_texts, is_id, holds, fails, first_fault_of, needed_fields, all_fields, measured_fields, counted_fields, shape_tests, later_tests, missing_tests, kind_tests, length_tests, count_tests};
 
 use crate::fault::PduFault;
 use crate::field::Field;
@@ -64,7 +64,7 @@ pub fn first_fault(event: &Json, text_len: usize) -> Option<PduFault>
 {
     match shape_fault(event) {
         Some(fault) => Some(fault),
-        None => text_fault(event, text_len),
+        None => later_fault(event, text_len),
     }
 }
 
@@ -82,9 +82,9 @@ pub(crate) fn shape_fault(event: &Json) -> Option<PduFault>
 }
 
 // The first of the other tests that the value fails.
-pub(crate) fn text_fault(event: &Json, text_len: usize) -> Option<PduFault>
+pub(crate) fn later_fault(event: &Json, text_len: usize) -> Option<PduFault>
     requires { text_len ≡ length (canonical_text event.now) }
-    ensures { result ≡ find (fails event.now) text_tests }
+    ensures { result ≡ find (fails event.now) later_tests }
 {
     if text_len > MAX_SIZE {
         return Some(PduFault::TooLarge);
