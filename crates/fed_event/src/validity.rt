@@ -68,7 +68,7 @@ pub fn first_fault(event: &Json, text_len: usize) -> Option<PduFault>
     }
 }
 
-// The first of the tests that the value fails, of those that look at none of its texts.
+// The first of the tests of its shape that a value fails. They need none of its texts.
 pub(crate) fn shape_fault(event: &Json) -> Option<PduFault>
     ensures { result ≡ find (fails event.now) shape_tests }
 {
@@ -81,7 +81,7 @@ pub(crate) fn shape_fault(event: &Json) -> Option<PduFault>
     }
 }
 
-// The first of the other tests that the value fails.
+// The first of the tests after these that a value fails, whose canonical text has `text_len` bytes.
 pub(crate) fn later_fault(event: &Json, text_len: usize) -> Option<PduFault>
     requires { text_len ≡ length (canonical_text event.now) }
     ensures { result ≡ find (fails event.now) later_tests }
