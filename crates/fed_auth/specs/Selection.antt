@@ -4,10 +4,10 @@ use Rattle.std.specs.Prelude.{ℕ, List, [], ◌∷◌, ◌++◌, Bool, true, fa
 use Rattle.std.specs.List.{list_any, filter_map, position_or_len}
 use Rattle.std.specs.Coded.{Coded, code_by, coded×, coded_ℕ, coded_list, coded_option}
 use Rattle.serde_json.specs.Data.{Data}
-use Rattle.serde_json.specs.Find.{as_str, get}
 use Rattle.fed_json.specs.Code.{coded_data}
 use Rattle.fed_event.specs.Tests.{holds}
 use Rattle.fed_event.specs.Fields.{content_of, kind_of, sender_of, state_key_of}
+use Rattle.fed_event.specs.Checked.{authorising_user_in}
 use Rattle.fed_room_contract.specs.State.{StateKey, StateMap, entry_at}
 use Rattle.fed_auth.specs.declared.membership.Membership.{Membership}
 use Rattle.fed_auth.specs.declared.membership.Membership.TheVariants.{Join, Invite, Knock}
@@ -48,7 +48,7 @@ unfoldable pub needs_join_rules : SelectorFields → Bool
 needs_join_rules fields = is_of_member fields && is_by_join_rules (membership_in fields.content)
 
 unfoldable pub authoriser_of : SelectorFields → Option (List ℕ)
-authoriser_of fields = if is_of_member fields then option_and_then as_str (get (codes "join_authorised_via_users_server") fields.content) else None
+authoriser_of fields = if is_of_member fields then authorising_user_in fields.content else None
 
 -- the keys of an event that a room has one of, and of the membership of a user
 abbrev pub room_key : List ℕ → StateKey

@@ -32,10 +32,11 @@ mod selector;
 mod state_view;
 
 pub use auth_events::auth_state;
+pub use fed_event::authorising_user;
 pub use join_rule::JoinRule;
 pub use laws::{selections_pass, what_an_auth_state_has, what_is_selected};
 pub use level::Level;
 pub use levels::Levels;
-pub use membership::{Membership, authorising_user};
+pub use membership::Membership;
 pub use rules::allowed;
 pub use selector::{Selector, selection};

@@ -1,11 +1,8 @@
 // What a member event makes of a user.
-ghost use Rattle.std.specs.Prelude.{◌≡◌, codes, option_map, option_and_then};
-ghost use Rattle.serde_json.specs.Find.{as_str, get};
+ghost use Rattle.std.specs.Prelude.{◌≡◌};
 ghost use Rattle.fed_json.specs.JsonRef.{seen};
-ghost use Rattle.fed_event.specs.Checked.{authorising_user_of};
 ghost use Rattle.fed_auth.specs.Membership.{membership_named, membership_in, is_joined, is_banned, is_invited_or_joined, is_knocking};
 
-use fed_event::Pdu;
 use fed_json::JsonRef;
 
 /// What a member event makes of a user (Client-Server API, "m.room.member"). A user without member event, and one whose
@@ -73,19 +70,4 @@ impl Membership {
     {
         matches!(self, Membership::Knock)
     }
-}
-
-/// The user of `join_authorised_via_users_server`, who authorises a join to a restricted room (room version 8, "Authorization
-/// rules"), where there is one that is a text.
-pub fn authorising_user(event: &Pdu) -> Option<&str>
-    ensures { option_map (λ s. s.now) result ≡ authorising_user_of event.now }
-{
-    authoriser_in(event.content())
-}
-
-// The same, by the content of the event.
-pub(crate) fn authoriser_in(content: JsonRef<'_>) -> Option<&str>
-    ensures { option_map (λ s. s.now) result ≡ option_and_then as_str (get (codes "join_authorised_via_users_server") (seen content.entry)) }
-{
-    content.member("join_authorised_via_users_server")?.text()
 }

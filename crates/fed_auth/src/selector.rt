@@ -3,8 +3,8 @@ ghost use Rattle.std.specs.Prelude.{◌≡◌, IfOk, OnOk, option_map};
 ghost use Rattle.fed_auth.specs.Selection.{is_by_join_rules, selector_of, entry_of, with_id, selection_of};
 ghost use Rattle.fed_auth.specs.SelectionKey.{seen};
 
-use crate::membership::{Membership, authoriser_in};
-use fed_event::{EventId, Pdu};
+use crate::membership::Membership;
+use fed_event::{EventId, Pdu, authorising_user_in};
 use fed_json::{JsonRef, NoMemory};
 use fed_room_contract::State;
 use std::alloc::Global;
@@ -162,7 +162,7 @@ impl<'a> Selector<'a> {
         ensures { option_map (λ s. s.now) result ≡ authoriser_of self.now }
     {
         if self.is_of_member() {
-            authoriser_in(self.content)
+            authorising_user_in(self.content)
         } else {
             None
         }

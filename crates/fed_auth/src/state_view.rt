@@ -7,8 +7,8 @@ use crate::event_rules::is_only;
 use crate::join_rule::JoinRule;
 use crate::levels::Levels;
 use crate::member_rules::{ActionLevels, Member, MemberFacts};
-use crate::membership::{Membership, authorising_user};
-use fed_event::Pdu;
+use crate::membership::Membership;
+use fed_event::{Pdu, authorising_user};
 use fed_json::JsonRef;
 use fed_room_contract::{Graph, State};
 

@@ -1,17 +1,15 @@
 -- An event that passes its tests has what `IsEvent` says.
-use Rattle.std.proofs.Common.{◌≡◌, ℕ, ◌≤◌, Bool, true, false, not, Option, Some, None, IfSome, is_none, length, refl, ap, sym, ◌∙◌, arith, option_and_then}
-use Rattle.std.specs.Prelude.{nat_lt, is_some}
+use Rattle.std.proofs.Common.{◌≡◌, ℕ, ◌≤◌, Bool, true, false, not, Option, Some, None, IfSome, is_none, length, refl, option_and_then}
+use Rattle.std.specs.Prelude.{nat_lt}
 use Rattle.std.proofs.lemmas.Bool.{ltb-false}
 use Rattle.serde_json.specs.Data.{Data, depth}
 use Rattle.serde_json.specs.Find.{as_str}
 use Rattle.fed_json.specs.CanonicalText.{canonical_text}
 use Rattle.fed_json.specs.JsonRef.{as_items}
-use Rattle.fed_event.specs.declared.field.Field.{Field}
-use Rattle.fed_event.specs.declared.field.Field.TheVariants.{Event, AuthEvents, Content, Depth, Hashes, OriginServerTs, PrevEvents, RoomId, Sender, Signatures, StateKey, «Type»}
-use Rattle.fed_event.specs.declared.fault.PduFault.TheVariants.{Missing, WrongKind, TooLarge, TooLong, TooMany, TooDeep}
-use Rattle.fed_event.specs.Tests.{part, has_kind, holds, is_object, is_text, fails, first_fault_of}
-use Rattle.fed_event.specs.Fields.{is_needed}
-use Rattle.fed_event.specs.Event.{IsShort, HasAtMost, IsEvent}
+use Rattle.fed_event.specs.declared.field.Field.TheVariants.{Event, AuthEvents, PrevEvents, RoomId, Sender, StateKey, «Type»}
+use Rattle.fed_event.specs.declared.fault.PduFault.TheVariants.{WrongKind, TooLarge, TooLong, TooMany, TooDeep}
+use Rattle.fed_event.specs.Tests.{part, has_kind, holds, is_text, first_fault_of}
+use Rattle.fed_event.specs.Event.{IsEvent}
 use Rattle.fed_event.proofs.Faults.{passed, passed_both}
 
 not_false : (b : Bool) → not b ≡ false → b ≡ true

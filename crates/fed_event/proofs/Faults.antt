@@ -1,13 +1,14 @@
 -- The first test that fails, and what a value that fails none is.
-use Rattle.std.proofs.Common.{◌≡◌, ◌≢◌, ℕ, zero, suc, List, [], ◌∷◌, ◌++◌, Bool, true, false, not, cond, Option, Some, None, IsSome, IsNone, is_none, option_map, unwrap_or, map, find, slice_get, Result, Ok, Err, IsErr, IfOk, IfErr, IsOkUnless, IsTrue, refl, sym, ◌∙◌, ap, subst}
+use Rattle.std.proofs.Common.{◌≡◌, ℕ, zero, suc, List, [], ◌∷◌, ◌++◌, Bool, true, false, not, cond, Option, Some, None, IsNone, is_none, option_map, unwrap_or, map, find, slice_get, Ok, Err, IsTrue, refl, sym, ◌∙◌, ap, true≢false}
+use Rattle.std.specs.Prelude.{is_some}
 use Rattle.serde_json.specs.Data.{Data, null}
 use Rattle.fed_event.specs.declared.field.Field.{Field}
 use Rattle.fed_event.specs.declared.field.Field.TheVariants.{Event, AuthEvents, Content, Depth, Hashes, OriginServerTs, PrevEvents, RoomId, Sender, Signatures, StateKey, «Type»}
 use Rattle.fed_event.specs.declared.fault.PduFault.{PduFault}
-use Rattle.fed_event.specs.declared.fault.PduFault.TheVariants.{Memory, Missing, WrongKind}
+use Rattle.fed_event.specs.declared.fault.PduFault.TheVariants.{Missing, WrongKind, TooDeep}
 use Rattle.fed_event.specs.Fields.{is_needed, value_at}
 use Rattle.fed_event.specs.Reading.{event_of}
-use Rattle.fed_event.specs.Tests.{part, holds, has_kind, fails, all_tests, first_fault_of}
+use Rattle.fed_event.specs.Tests.{part, holds, has_kind, fails, shape_tests, later_tests, all_tests, first_fault_of}
 
 -- ---- groups of tests
 
@@ -68,6 +69,40 @@ there_passed event field h needed = (passed_both event field h needed).0
 pub kind_passed : (event : Data) (field : Field) → first_fault_of event ≡ None → IsTrue (is_needed field) → has_kind field (value_at field event) ≡ true
 kind_passed event field h needed = let both = passed_both event field h needed in held (has_kind field) (part field event) both.0 both.1
 
+-- ---- the tests of the shape come first
+
+pub first-shape : (event : Data) (fault : PduFault) → find (fails event) shape_tests ≡ Some fault → first_fault_of event ≡ Some fault
+unfolding first_fault_of
+first-shape event fault h = find_in_group (fails event) (λ test. test) shape_tests later_tests fault h
+
+pub first-later : (event : Data) → find (fails event) shape_tests ≡ None → first_fault_of event ≡ find (fails event) later_tests
+unfolding first_fault_of
+first-later event h = find_past_group (fails event) (λ test. test) shape_tests later_tests h
+
+found_fails : {X : Type 0} (test : X → Bool) (xs : List X) (x : X) → find test xs ≡ Some x → test x ≡ true
+found_fails test [] x h = absurd (cc)
+found_fails test (y ∷ ys) x h =
+    elim (test y) as (λ b. test y ≡ b → cond b (Some y) (find test ys) ≡ Some x → test x ≡ true)
+    [ true ↦ λ t is. let same : y ≡ x = cc in ap test (sym same) ∙ t | false ↦ λ t is. found_fails test ys x is ] refl h
+
+no_fault_of_shape : (event : Data) (i : ℕ) (fault : PduFault) → slice_get shape_tests i ≡ Some fault → find (fails event) shape_tests ≡ None → first_fault_of event ≡ Some fault → ⊥
+unfolding first_fault_of
+no_fault_of_shape event i fault there none first =
+    true≢false (sym (found_fails (fails event) all_tests fault first) ∙ none_at (fails event) shape_tests i fault none there)
+
+-- what is first is one fault
+pub one_first : (event : Data) (fault other : PduFault) → first_fault_of event ≡ Some fault → first_fault_of event ≡ Some other → fault ≡ other
+one_first event fault other h is = ap (λ o. unwrap_or o other) (sym h ∙ is)
+
+pub not_none : (event : Data) (fault : PduFault) → first_fault_of event ≡ Some fault → IsNone (first_fault_of event) → ⊥
+not_none event fault h none = true≢false (ap is_some (sym h) ∙ none)
+
+pub not_deep : (event : Data) → find (fails event) shape_tests ≡ None → first_fault_of event ≡ Some TooDeep → ⊥
+not_deep event none first = no_fault_of_shape event 0 TooDeep refl none first
+
+pub not_no_object : (event : Data) → find (fails event) shape_tests ≡ None → first_fault_of event ≡ Some (WrongKind Event) → ⊥
+not_no_object event none first = no_fault_of_shape event 1 (WrongKind Event) refl none first
+
 -- ---- a value, an event or none
 
 pub event-passed : (value : Data) → first_fault_of value ≡ None → event_of value ≡ Ok value
@@ -75,18 +110,3 @@ event-passed value h = ap (λ fault. unwrap_or (option_map Err fault) (Ok value)
 
 pub event-failed : (value : Data) (fault : PduFault) → first_fault_of value ≡ Some fault → event_of value ≡ Err fault
 event-failed value fault h = ap (λ o. unwrap_or (option_map Err o) (Ok value)) h
-
--- what `Pdu::of_json` says, where memory suffices
-pub record IsTested (value : Data) (fault : Option PduFault) (r : Result Data PduFault) : Type 0 where
-  pub ok : IfOk r (λ p. p ≡ value)
-  pub passes : IfOk r (λ _. fault ≡ None)
-  pub fails : IfErr r (λ e. e ≢ Memory → fault ≡ Some e)
-  pub only : IsNone fault → IsOkUnless r Memory
-  pub refuses : IsSome fault → IsErr r
-
-tested_as : (value : Data) (fault : Option PduFault) → IsTested value fault (unwrap_or (option_map Err fault) (Ok value))
-tested_as value None = record { ok = refl; passes = refl; fails = tt; only = λ h. tt; refuses = λ h. absurd (cc) }
-tested_as value (Some fault) = record { ok = tt; passes = tt; fails = λ other. refl; only = λ h. absurd (cc); refuses = λ h. refl }
-
-pub tested : (value : Data) (r : Result Data PduFault) → r ≡ event_of value → IsTested value (first_fault_of value) r
-tested value r h = subst (IsTested value (first_fault_of value)) (sym h) (tested_as value (first_fault_of value))

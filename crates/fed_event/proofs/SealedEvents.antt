@@ -26,7 +26,7 @@ use Rattle.fed_redaction.specs.ContentHash.{uncovered_keys, content_hash_of, giv
 use Rattle.fed_keys.specs.Keys.{Checks}
 use Rattle.fed_event.specs.Signatures.{signature_in, signatures_by, is_signed_by, is_signed}
 use Rattle.fed_event.specs.Checked.{CheckedEvent, checked_of}
-use Rattle.fed_event.specs.Sealing.{sender_text, IsSentBy, holding, hashed_of, signature_text_of, sealed_of}
+use Rattle.fed_event.specs.Sealing.{sender_text, IsSentBy, holding, hashed_of, signature_text_of, signed_of, sealed_of}
 use Rattle.fed_redaction.specs.Laws.{AreUnsigned}
 use Rattle.fed_event.proofs.Faults.{kind_passed}
 use Rattle.fed_redaction.proofs.Redacting.{signed_part-leave_out}
@@ -128,6 +128,9 @@ sender_text-passed server key sign parts passes =
     subst IsSome (sender_text-sealed server key sign parts) (sent (get (codes "sender") event) (kind_passed event Sender passes refl))
 
 -- ---- the event as a whole
+
+pub signed_text-signed : (server key : List ℕ) (sign : List ℕ → List ℕ) (event : Data) → signed_text_of (signed_of server key sign event) ≡ signed_text_of event
+signed_text-signed server key sign event = signed_text-signatures (holding server (holding key (string (signature_text_of sign event)))) event
 
 fits-text : (event : Data) (hash text : List ℕ) → given_hash_of event ≡ Some text → content_hash_of event ≡ hash → hash ≡ text → hash_fits_of event ≡ true
 fits-text event hash text given is same = ap (λ o. holds (bytes_eq (content_hash_of event)) o) given ∙ (bytes_eq-Decides (content_hash_of event) text).1 (is ∙ same)

@@ -1,9 +1,8 @@
 -- What stands in a sealed event.
-use Rattle.std.proofs.Common.{◌≡◌, ℕ, List, Some, IsSome, codes, true, bytes_eq, true≢false, refl, ap, ◌∙◌}
+use Rattle.std.proofs.Common.{◌≡◌, ℕ, List, Some, IsSome, codes, bytes_eq, true≢false, ap, ◌∙◌}
 use Rattle.std.specs.Prelude.{◌≢◌}
 use Rattle.serde_json.specs.Data.{Data, string}
 use Rattle.serde_json.specs.Find.{as_object, get}
-use Rattle.fed_json.specs.Editing.{with_member}
 use Rattle.fed_json.proofs.Edited.{get-with_member, get-with_member_other, object-with_member}
 use Rattle.fed_redaction.specs.ContentHash.{content_hash_of}
 use Rattle.fed_event.specs.Sealing.{holding, hashed_of, signature_text_of, sealed_of}

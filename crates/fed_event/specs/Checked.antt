@@ -21,9 +21,12 @@ pub record CheckedEvent : Type 0 where
 abbrev pub checked_code : Coded CheckedEvent
 checked_code = code_by (Data × Bool) (coded× coded_data coded_bool) (λ c. (c.event, c.authorised)) (λ p. record { event = p.0; authorised = p.1 }) (λ _. refl)
 
--- the user that authorises a join to a restricted room (room version 8, "Authorization rules")
+-- the user that authorises a join to a restricted room, by the content of the event (room version 8, "Authorization rules")
+abbrev pub authorising_user_in : Data → Option (List ℕ)
+authorising_user_in content = option_and_then as_str (get (codes "join_authorised_via_users_server") content)
+
 abbrev pub authorising_user_of : Data → Option (List ℕ)
-authorising_user_of event = option_and_then as_str (get (codes "join_authorised_via_users_server") (content_of event))
+authorising_user_of event = authorising_user_in (content_of event)
 
 abbrev pub is_authorised : Checks → Data → Bool
 is_authorised checks event = holds (λ user. is_signed_by checks (domain_of user) event) (authorising_user_of event)

@@ -8,11 +8,22 @@ use Rattle.fed_event.specs.declared.field.Field.{Field}
 use Rattle.fed_event.specs.declared.field.Field.TheVariants.{Event, AuthEvents, Content, Depth, Hashes, OriginServerTs, PrevEvents, RoomId, Sender, Signatures, StateKey, «Type»}
 use Rattle.fed_event.specs.Tests.{part}
 
--- the fields that no event lacks, and those that hold ids
+-- the fields that no event lacks, and of these those that hold a text, a whole number and ids
 abbrev pub is_needed : Field → Bool
 is_needed Event = false
 is_needed StateKey = false
 is_needed field = true
+
+abbrev pub has_text : Field → Bool
+has_text RoomId = true
+has_text Sender = true
+has_text «Type» = true
+has_text field = false
+
+abbrev pub has_whole : Field → Bool
+has_whole Depth = true
+has_whole OriginServerTs = true
+has_whole field = false
 
 abbrev pub has_ids : Field → Bool
 has_ids AuthEvents = true

@@ -29,8 +29,9 @@ all_fields = AuthEvents ∷ Content ∷ Depth ∷ Hashes ∷ OriginServerTs ∷ 
 
 -- ---- the order
 
+-- the depth, and whether it is an object
 abbrev pub shape_tests : List PduFault
-shape_tests = TooDeep ∷ WrongKind Event ∷ TooLarge ∷ []
+shape_tests = TooDeep ∷ WrongKind Event ∷ []
 
 abbrev pub missing_tests : List PduFault
 missing_tests = map Missing needed_fields
@@ -51,9 +52,13 @@ length_tests = map TooLong measured_fields
 abbrev pub count_tests : List PduFault
 count_tests = map TooMany counted_fields
 
+-- the size, and then the fields
+abbrev pub later_tests : List PduFault
+later_tests = TooLarge ∷ (missing_tests ++ (kind_tests ++ (length_tests ++ count_tests)))
+
 -- every test that a value can fail, the first one first; bytes have to be JSON and canonical before that
 abbrev pub all_tests : List PduFault
-all_tests = shape_tests ++ (missing_tests ++ (kind_tests ++ (length_tests ++ count_tests)))
+all_tests = shape_tests ++ later_tests
 
 -- ---- the tests
 

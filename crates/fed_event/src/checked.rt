@@ -1,6 +1,7 @@
 // Events that have passed the checks on receipt.
 ghost use Rattle.std.specs.Prelude.{◌≡◌, true, false, Err, IfOk, OnOk, IsErrOf, string_bytes, option_map, if◌then◌else◌};
 ghost use Rattle.serde_json.specs.Data.{Data};
+ghost use Rattle.fed_json.specs.JsonRef.{seen};
 ghost use Rattle.fed_event.specs.declared.checked.CheckFault.TheVariants.{Memory};
 ghost use Rattle.fed_redaction.specs.Redaction.{redacted};
 ghost use Rattle.fed_redaction.specs.EventId.{signed_text_of, event_id_of};
@@ -8,13 +9,13 @@ ghost use Rattle.fed_redaction.specs.ContentHash.{hash_fits_of};
 ghost use Rattle.fed_keys.specs.Keys.{Checks};
 ghost use Rattle.fed_event.specs.Signatures.{is_signed as is_signed_by_sender};
 ghost use Rattle.fed_event.specs.Fields.{room_id_of};
-ghost use Rattle.fed_event.specs.Checked.{authorising_user_of, is_authorised as is_authorised_by, checked_of};
+ghost use Rattle.fed_event.specs.Checked.{authorising_user_in, authorising_user_of, is_authorised as is_authorised_by, checked_of};
 ghost use Rattle.fed_event.specs.CheckVerdict.{check_verdict_of};
 
 use crate::ids::domain;
 use crate::pdu::Pdu;
 use crate::signature::is_signed_by;
-use fed_json::NoMemory;
+use fed_json::{JsonRef, NoMemory};
 use fed_keys::Keys;
 use fed_redaction::signed_text;
 use std::alloc::Global;
@@ -173,14 +174,19 @@ fn is_authorised<K: Keys>(keys: &K, event: &Pdu, signed: &[u8]) -> bool
     }
 }
 
-// The user that authorises a join, where there is one that is a text.
-fn authorising_user(event: &Pdu) -> Option<&str>
+/// The user of `join_authorised_via_users_server`, who authorises a join to a restricted room (room version 8, "Authorization
+/// rules"), where there is one that is a text.
+pub fn authorising_user(event: &Pdu) -> Option<&str>
     ensures { option_map (λ s. s.now) result ≡ authorising_user_of event.now }
 {
-    event
-        .content()
-        .member("join_authorised_via_users_server")?
-        .text()
+    authorising_user_in(event.content())
+}
+
+/// The same, by the content of the event.
+pub fn authorising_user_in(content: JsonRef<'_>) -> Option<&str>
+    ensures { option_map (λ s. s.now) result ≡ authorising_user_in (seen content.entry) }
+{
+    content.member("join_authorised_via_users_server")?.text()
 }
 
 /// An event that has passed the checks on receipt has the id and the room of the event that came, redacted or not.

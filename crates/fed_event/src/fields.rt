@@ -2,7 +2,7 @@
 ghost use Rattle.std.specs.Prelude.{◌≡◌, IsTrue, true, option_map};
 ghost use Rattle.fed_json.specs.JsonRef.{seen};
 ghost use Rattle.fed_event.specs.EventIds.{ids_left};
-ghost use Rattle.fed_event.specs.Fields.{is_needed, has_ids, value_at, text_at, whole_at, texts_at, auth_events_of, content_of, depth_of, hashes_of, origin_server_ts_of, prev_events_of, room_id_of, sender_of, signatures_of, state_key_of, kind_of};
+ghost use Rattle.fed_event.specs.Fields.{is_needed, has_text, has_whole, has_ids, value_at, text_at, whole_at, texts_at, auth_events_of, content_of, depth_of, hashes_of, origin_server_ts_of, prev_events_of, room_id_of, sender_of, signatures_of, state_key_of, kind_of};
 ghost use Rattle.fed_event.specs.Tests.{has_kind};
 
 use crate::event_ids::EventIds;
@@ -101,20 +101,26 @@ impl Pdu {
         }
     }
 
-    // The text in a field.
+    // The text in a field that holds a text.
     fn text_at(&self, field: Field) -> &str
-        requires { IsTrue (is_needed field) }
+        requires { IsTrue (has_text field) }
         ensures { result.now ≡ text_at field self.now }
     {
-        self.value_at(field).text().unwrap_or("")
+        match self.value_at(field).text() {
+            Some(text) => text,
+            None => unreachable!(),
+        }
     }
 
-    // The number in a field.
+    // The number in a field that holds a whole number.
     fn whole_at(&self, field: Field) -> i64
-        requires { IsTrue (is_needed field) }
+        requires { IsTrue (has_whole field) }
         ensures { result ≡ whole_at field self.now }
     {
-        self.value_at(field).whole().unwrap_or(0)
+        match self.value_at(field).whole() {
+            Some(whole) => whole,
+            None => unreachable!(),
+        }
     }
 
     // The ids in a field that holds ids.

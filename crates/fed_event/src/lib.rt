@@ -25,7 +25,10 @@ mod sealing;
 mod signature;
 mod validity;
 
-pub use checked::{CheckFault, Checked, check_in, check_signed, ids_of_checked};
+pub use checked::{
+    CheckFault, Checked, authorising_user, authorising_user_in, check_in, check_signed,
+    ids_of_checked,
+};
 pub use event_ids::EventIds;
 pub use fault::PduFault;
 pub use fed_keys::{Keys, StandIn, Trusting, stand_ins_agree};

@@ -1,16 +1,17 @@
 // Events that have passed the tests.
-ghost use Rattle.std.specs.Prelude.{◌≡◌, ◌≢◌, Some, None, Ok, Err, IfOk, IfErr, IsOk, IsErr, IsSome, IsNone, IsOkUnless};
-ghost use Rattle.fed_event.specs.declared.fault.PduFault.TheVariants.{Memory};
-ghost use Rattle.fed_redaction.specs.EventId.{event_id_of};
+ghost use Rattle.std.specs.Prelude.{◌≡◌, ◌≢◌, true, Some, None, Ok, Err, find, IfOk, IfErr, IsOk, IsErr, IsSome, IsNone, IsOkUnless};
+ghost use Rattle.fed_event.specs.declared.field.Field.TheVariants.{Event};
+ghost use Rattle.fed_event.specs.declared.fault.PduFault.TheVariants.{Memory, WrongKind, TooDeep};
+ghost use Rattle.fed_redaction.specs.EventId.{signed_text_of, event_id_of};
 ghost use Rattle.fed_event.specs.Reading.{read_of};
 ghost use Rattle.fed_redaction.specs.ContentHash.{hash_fits_of};
 ghost use Rattle.fed_redaction.specs.Texts.{event_texts};
 ghost use Rattle.fed_redaction.specs.Redaction.{redacted};
-ghost use Rattle.fed_event.specs.Tests.{first_fault_of};
+ghost use Rattle.fed_event.specs.Tests.{fails, shape_tests, first_fault_of};
 
 use crate::fault::PduFault;
-use crate::validity::first_fault;
-use fed_json::{Json, JsonFault, MAX_LEVELS, NoMemory, read_within};
+use crate::validity::{first_fault, later_fault, shape_fault};
+use fed_json::{Json, JsonFault, MAX_LEVELS, NoMemory, canonical, read_within};
 use fed_redaction::{EventId, Texts, covered_text, event_id_of_signed, hash_fits, redact};
 use std::alloc::Global;
 use std::marker::Model;
@@ -76,17 +77,23 @@ impl Pdu {
     /// # Errors
     ///
     /// The fault of the first test that the value fails: `TooDeep`, `WrongKind(Event)`, `TooLarge`, or the first of `Missing`, then
-    /// of `WrongKind`, then of `TooLong` and then of `TooMany`, each in the order of `Field`. `Memory` where memory ran out.
+    /// of `WrongKind`, then of `TooLong` and then of `TooMany`, each in the order of `Field`. The first two are told without memory;
+    /// the others come after the event's texts are made, and `Memory` may come in their place where memory ran out.
     pub fn of_json(alloc: Global, json: Json) -> Result<Pdu, PduFault>
         ensures ok { IfOk result (λ p. p ≡ json) }
         ensures passes { IfOk result (λ _. first_fault_of json ≡ None) }
         ensures fails { IfErr result (λ e. e ≢ Memory → first_fault_of json ≡ Some e) }
         ensures only { IsNone (first_fault_of json) → IsOkUnless result Memory }
         ensures refuses { IsSome (first_fault_of json) → IsErr result }
+        ensures deep { first_fault_of json ≡ Some TooDeep → result ≡ Err TooDeep }
+        ensures no_object { first_fault_of json ≡ Some (WrongKind Event) → result ≡ Err (WrongKind Event) }
     {
+        if let Some(fault) = shape_fault(&json) {
+            return Err(fault);
+        }
         let texts = Texts::of(alloc, &json)?;
         let id = event_id_of_signed(alloc, texts.signed())?;
-        Pdu::with_texts(json, &texts, id)
+        Pdu::of_shape(json, &texts, id)
     }
 
     /// The event that a value is, whose texts are `texts` and whose id is `id`: for a caller that has both. It takes no memory.
@@ -101,7 +108,22 @@ impl Pdu {
         ensures passes { IfOk result (λ _. first_fault_of json ≡ None) }
         ensures fails { IfErr result (λ e. first_fault_of json ≡ Some e) }
     {
-        if let Some(fault) = first_fault(&json, texts.whole().len()) {
+        match shape_fault(&json) {
+            Some(fault) => Err(fault),
+            None => Pdu::of_shape(json, texts, id),
+        }
+    }
+
+    // The same, of a value that has passed the tests of its shape.
+    fn of_shape(json: Json, texts: &Texts, id: EventId) -> Result<Pdu, PduFault>
+        requires shape { find (fails json) shape_tests ≡ None }
+        requires texts { texts.now ≡ event_texts json }
+        requires id { id ≡ event_id_of json }
+        ensures ok { IfOk result (λ p. p ≡ json) }
+        ensures passes { IfOk result (λ _. first_fault_of json ≡ None) }
+        ensures fails { IfErr result (λ e. first_fault_of json ≡ Some e) }
+    {
+        if let Some(fault) = later_fault(&json, texts.whole().len()) {
             return Err(fault);
         }
         let hash_fits = hash_fits(&json, texts.covered());
@@ -109,6 +131,26 @@ impl Pdu {
             json,
             id,
             hash_fits,
+        })
+    }
+
+    // The event that a value is, whose signed text is `signed` and whose content hash fits where it is an event.
+    pub(crate) fn of_fitting(alloc: Global, json: Json, signed: &[u8]) -> Result<Pdu, PduFault>
+        requires signed { signed.now ≡ signed_text_of json }
+        requires fits { first_fault_of json ≡ None → hash_fits_of json ≡ true }
+        ensures ok { IfOk result (λ p. p ≡ json) }
+        ensures passes { IfOk result (λ _. first_fault_of json ≡ None) }
+        ensures fails { IfErr result (λ e. e ≢ Memory → first_fault_of json ≡ Some e) }
+    {
+        let text = canonical(alloc, &json)?;
+        if let Some(fault) = first_fault(&json, text.len()) {
+            return Err(fault);
+        }
+        let id = event_id_of_signed(alloc, signed)?;
+        Ok(Pdu {
+            json,
+            id,
+            hash_fits: true,
         })
     }
 

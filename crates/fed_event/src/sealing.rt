@@ -1,5 +1,7 @@
 // Events that the own server makes.
 ghost use Rattle.std.specs.Prelude.{◌≡◌, ◌≢◌, ◌<◌, ◌↔◌, true, Some, None, IsTrue, IfOk, IfErr, OnOk, string_bytes, option_map};
+ghost use Rattle.base64.specs.Engines.{standard_no_pad};
+ghost use Rattle.base64.specs.GeneralPurpose.{encode_of};
 ghost use Rattle.serde_json.specs.Data.{depth, string};
 ghost use Rattle.serde_json.specs.Read.{max_depth};
 ghost use Rattle.fed_event.specs.declared.fault.PduFault.TheVariants.{Memory};
@@ -8,9 +10,9 @@ ghost use Rattle.fed_redaction.specs.ContentHash.{hash_fits_of};
 ghost use Rattle.fed_event.specs.Signatures.{signature_in, is_signed};
 ghost use Rattle.fed_event.specs.Checked.{checked_of};
 ghost use Rattle.fed_event.specs.Tests.{first_fault_of};
-ghost use Rattle.fed_event.specs.Sealing.{sender_text, IsSentBy, holding as object_holding, hashed_of, signature_text_of, sealed_of};
+ghost use Rattle.fed_event.specs.Sealing.{sender_text, IsSentBy, holding as object_holding, hashed_of, signature_text_of, signed_of, sealed_of};
 
-use crate::checked::{CheckFault, Checked, check_in};
+use crate::checked::{CheckFault, Checked, check_signed};
 use crate::fault::PduFault;
 use crate::ids::domain;
 use crate::pdu::Pdu;
@@ -43,7 +45,8 @@ fn sender(event: &Json) -> Option<&str>
 ///
 /// # Errors
 ///
-/// Those of `Pdu::of_json` on the event with its hash and signature. Where `parts` is no object, it is left as it is.
+/// Those of `Pdu::of_json` on the event with its hash and signature, where `Memory` may come in the place of each other one. Where
+/// `parts` is no object, it is left as it is.
 pub fn seal<K: Keys>(alloc: Global, parts: Json, keys: &K) -> Result<Checked, PduFault>
     requires { IsSentBy (K.own_name keys.now) parts }
     ensures event { let sealed = sealed_of (K.own_name keys.now) (K.own_key keys.now) (K.own_signature keys.now) parts in
@@ -56,39 +59,56 @@ pub fn seal<K: Keys>(alloc: Global, parts: Json, keys: &K) -> Result<Checked, Pd
     ensures fails { let sealed = sealed_of (K.own_name keys.now) (K.own_key keys.now) (K.own_signature keys.now) parts in
         IfErr result (λ e. e ≢ Memory → first_fault_of sealed ≡ Some e) }
 {
-    let event = Pdu::of_json(alloc, sealed(alloc, parts, keys)?)?;
-    match check_in(alloc, event, keys) {
+    let hashed = hashed(alloc, parts)?;
+    let signed_text = signed_text(alloc, &hashed)?;
+    let event = signed(alloc, hashed, &signed_text, keys)?;
+    let event = Pdu::of_fitting(alloc, event, &signed_text)?;
+    match check_signed(alloc, event, &signed_text, keys) {
         Ok(checked) => Ok(checked),
         Err(CheckFault::Memory) => Err(PduFault::Memory),
         Err(CheckFault::BadSignature) => unreachable!(),
     }
 }
 
-// The parts with the content hash and the own signature.
-fn sealed<K: Keys>(alloc: Global, parts: Json, keys: &K) -> Result<Json, NoMemory>
-    ensures event { IfOk result (λ event. event
-        ≡ sealed_of (K.own_name keys.now) (K.own_key keys.now) (K.own_signature keys.now) parts) }
-    ensures decodes { OnOk result (signature_in (string (signature_text_of (K.own_signature keys.now) (hashed_of parts)))
-        ≡ Some (K.own_signature keys.now (signed_text_of (hashed_of parts)))) }
+// The parts with the content hash.
+fn hashed(alloc: Global, parts: Json) -> Result<Json, NoMemory>
+    ensures { IfOk result (λ event. event ≡ hashed_of parts) }
 {
     let mut event = parts;
     let hash = Json::from(content_hash(alloc, &event)?);
     let hashes = holding(alloc, "sha256", hash)?;
     event.put(String::from_str(alloc, "hashes")?, hashes)?;
-    let signature = Json::from(signature_text(alloc, &event, keys)?);
+    Ok(event)
+}
+
+// The event with the own signature, which decodes. No signature covers `signatures`, so the signed text is that of both.
+fn signed<K: Keys>(
+    alloc: Global,
+    event: Json,
+    signed_text: &[u8],
+    keys: &K,
+) -> Result<Json, NoMemory>
+    requires { signed_text.now ≡ signed_text_of event }
+    ensures event { IfOk result (λ signed. signed
+        ≡ signed_of (K.own_name keys.now) (K.own_key keys.now) (K.own_signature keys.now) event) }
+    ensures decodes { OnOk result (signature_in (string (signature_text_of (K.own_signature keys.now) event))
+        ≡ Some (K.own_signature keys.now (signed_text_of event))) }
+{
+    let mut event = event;
+    let signature = Json::from(signature_text(alloc, signed_text, keys)?);
     let by_key = holding(alloc, keys.key_name(), signature)?;
     let signatures = holding(alloc, keys.own(), by_key)?;
     event.put(String::from_str(alloc, "signatures")?, signatures)?;
     Ok(event)
 }
 
-// The own signature of an event as a text, which decodes to that signature.
-fn signature_text<K: Keys>(alloc: Global, event: &Json, keys: &K) -> Result<String, NoMemory>
-    ensures text { IfOk result (λ text. string_bytes text ≡ signature_text_of (K.own_signature keys.now) event.now) }
-    ensures decodes { OnOk result (signature_in (string (signature_text_of (K.own_signature keys.now) event.now))
-        ≡ Some (K.own_signature keys.now (signed_text_of event.now))) }
+// The own signature of a message as a text, which decodes to that signature.
+fn signature_text<K: Keys>(alloc: Global, message: &[u8], keys: &K) -> Result<String, NoMemory>
+    ensures text { IfOk result (λ text. string_bytes text ≡ encode_of standard_no_pad (K.own_signature keys.now message.now)) }
+    ensures decodes { let signature = K.own_signature keys.now message.now in
+        OnOk result (signature_in (string (encode_of standard_no_pad signature)) ≡ Some signature) }
 {
-    let signature = keys.sign(&signed_text(alloc, event)?);
+    let signature = keys.sign(message);
     STANDARD_NO_PAD.encode(alloc, &signature)
 }
 

@@ -1,12 +1,12 @@
 // The tests that an event has to pass.
-ghost use Rattle.std.specs.Prelude.{◌≡◌, ◌++◌, length, find, option_map};
+ghost use Rattle.std.specs.Prelude.{◌≡◌, ◌++◌, length, find, nat_lt, option_map, option_and_then};
 ghost use Rattle.std.specs.List.{list_all};
 ghost use Rattle.serde_json.specs.Find.{as_str};
 ghost use Rattle.fed_json.specs.CanonicalText.{canonical_text};
 ghost use Rattle.fed_json.specs.Items.{left};
-ghost use Rattle.fed_json.specs.JsonRef.{seen};
+ghost use Rattle.fed_json.specs.JsonRef.{seen, as_items};
 ghost use Rattle.fed_event.specs.Ids.{is_id_text};
-ghost use Rattle.fed_event.specs.Tests.{part, has_kind, is_text, is_array_of_texts, is_id, most, fails, first_fault_of, needed_fields, all_fields, measured_fields, counted_fields, missing_tests, kind_tests, length_tests, count_tests};
+ghost use Rattle.fed_event.specs.Tests.{part, has_kind, is_text, is_array_of_texts, is_id, holds, fails, first_fault_of, needed_fields, all_fields, measured_fields, counted_fields, shape_tests, later_tests, missing_tests, kind_tests, length_tests, count_tests};
 
 use crate::fault::PduFault;
 use crate::field::Field;
@@ -56,21 +56,37 @@ const ALL: [Field; 11] = [
 
 const MEASURED: [Field; 4] = [Field::RoomId, Field::Sender, Field::StateKey, Field::Type];
 
-const COUNTED: [Field; 2] = [Field::AuthEvents, Field::PrevEvents];
-
-/// The first of a `Pdu`'s tests that a value fails, whose canonical text has `size` bytes.
+/// The first of a `Pdu`'s tests that a value fails, whose canonical text has `text_len` bytes.
 #[tactic(auto, unfolding(crate::specs::Tests::first_fault_of))]
-pub fn first_fault(event: &Json, size: usize) -> Option<PduFault>
-    requires { size ≡ length (canonical_text event.now) }
+pub fn first_fault(event: &Json, text_len: usize) -> Option<PduFault>
+    requires { text_len ≡ length (canonical_text event.now) }
     ensures { result ≡ first_fault_of event.now }
 {
+    match shape_fault(event) {
+        Some(fault) => Some(fault),
+        None => later_fault(event, text_len),
+    }
+}
+
+// The first of the tests of its shape that a value fails. They need none of its texts.
+pub(crate) fn shape_fault(event: &Json) -> Option<PduFault>
+    ensures { result ≡ find (fails event.now) shape_tests }
+{
     if event.depth() > MAX_DEPTH {
-        return Some(PduFault::TooDeep);
+        Some(PduFault::TooDeep)
+    } else if !event.is_object() {
+        Some(PduFault::WrongKind(Field::Event))
+    } else {
+        None
     }
-    if !event.is_object() {
-        return Some(PduFault::WrongKind(Field::Event));
-    }
-    if size > MAX_SIZE {
+}
+
+// The first of the tests after these that a value fails, whose canonical text has `text_len` bytes.
+pub(crate) fn later_fault(event: &Json, text_len: usize) -> Option<PduFault>
+    requires { text_len ≡ length (canonical_text event.now) }
+    ensures { result ≡ find (fails event.now) later_tests }
+{
+    if text_len > MAX_SIZE {
         return Some(PduFault::TooLarge);
     }
     field_fault(event)
@@ -127,10 +143,13 @@ fn too_long(event: &Json) -> Option<Field>
 fn too_many(event: &Json) -> Option<Field>
     ensures { result ≡ find (λ field. fails event.now (PduFault.TooMany field)) counted_fields }
 {
-    COUNTED
-        .iter()
-        .copied()
-        .find(|field| is_too_many(event, *field))
+    if has_more(event, Field::AuthEvents, MAX_AUTH_EVENTS) {
+        Some(Field::AuthEvents)
+    } else if has_more(event, Field::PrevEvents, MAX_PREV_EVENTS) {
+        Some(Field::PrevEvents)
+    } else {
+        None
+    }
 }
 
 fn is_missing(event: &Json, field: Field) -> bool
@@ -152,11 +171,12 @@ fn is_too_long(event: &Json, field: Field) -> bool
     text.is_some_and(|text| text.len() > MAX_TEXT)
 }
 
-fn is_too_many(event: &Json, field: Field) -> bool
-    ensures { result ≡ fails event.now (PduFault.TooMany field) }
+// Whether an array stands in the field that has more items than this.
+fn has_more(event: &Json, field: Field, most: usize) -> bool
+    ensures { result ≡ holds (λ ids. nat_lt most (length ids)) (option_and_then as_items (part field event.now)) }
 {
     let ids = part(event, field).and_then(|value| value.items());
-    ids.is_some_and(|ids| ids.len() > most(field))
+    ids.is_some_and(|ids| ids.len() > most)
 }
 
 // What stands in the field; the event stands in its own.
@@ -212,14 +232,4 @@ fn is_id_text(sigil: u8, text: &str) -> bool
 {
     let bytes = text.as_bytes();
     !bytes.is_empty() && bytes[0] == sigil && bytes.contains(&b':')
-}
-
-// The most ids that the field may have.
-fn most(field: Field) -> usize
-    ensures { result ≡ most field }
-{
-    match field {
-        Field::PrevEvents => MAX_PREV_EVENTS,
-        _ => MAX_AUTH_EVENTS,
-    }
 }

@@ -1,4 +1,4 @@
-use Rattle.std.proofs.Common.{◌≡◌, ℕ, List, length, Some, OnOk, arith, refl, ◌∙◌, ap, subst}
+use Rattle.std.proofs.Common.{◌≡◌, ℕ, List, length, Some, OnOk, arith, refl, subst}
 use Rattle.serde_json.specs.Data.{string}
 use Rattle.base64.specs.Engines.{standard_no_pad}
 use Rattle.base64.specs.GeneralPurpose.{encode_of}
@@ -12,5 +12,4 @@ returns-clause-decodes g c =
     let size : length bytes ≡ 64 = omega arith in
     let decodes = decoded-encoded c.encode.result bytes size c.encode.ensures.text (c.encode.ensures.round_trip refl) in
     let P : List ℕ → Type 0 = λ b. OnOk c.encode.result (signature_in (string (encode_of standard_no_pad b)) ≡ Some b) in
-    let message = c.deref.ensures.value ∙ c.in_ok-signed_text.ensures in
-    subst P (c.sign-signature.ensures ∙ ap (g.K.Keys.own_signature c.args.keys.now) message) decodes
+    subst P c.sign-signature.ensures decodes
