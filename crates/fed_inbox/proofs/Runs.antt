@@ -91,8 +91,7 @@ module _ (checks : Checks) where
         by (inl is) (inl nothing) = ([], ap (λ (i : InboxState). by_part (log_at o i.logs)) nothing.new_is ∙ sym (append-nil (by_part (log_at o s.logs))))
         by (inl is) (inr (inl again)) = ([], ap (λ (i : InboxState). by_part (log_at o i.logs)) again.new_is ∙ sym (append-nil (by_part (log_at o s.logs))))
         by (inl is) (inr (inr first)) =
-            let gain = grows first.log s.rooms r.txn first.transaction in
-            (
+            let gain = grows first.log s.rooms r.txn first.transaction in (
               gain.0,
               ap (λ p. by_part (log_at p new.logs)) is ∙ ap by_part first.now ∙ gain.1
                   ∙ ap (λ found. by_part found ++ gain.0) (sym first.there) ∙ ap (λ p. by_part (log_at p s.logs) ++ gain.0) (sym is),
