@@ -100,6 +100,7 @@ def cases():
         ([], empty("a.example", "x.example") + "\n" + empty("a.example"), TAKEN + NOT_LISTED, "fed: line 3: wrong words\n", 1),
         (["inbox", "--servers", "b.example"], empty("b.example", "a.example"), NOT_LISTED + NOT_LISTED, "", 0),
         (others, empty("a.example", "b.example", "c.example", "d.example"), NOT_LISTED + TAKEN + NOT_LISTED + TAKEN, "", 0),
+        ([], empty("x.example") * 100_000, NOT_LISTED * 100_000, "", 0),
         (["inbox"], rooms, with_r, "", 0),
         (["inbox", "--room", "!q:a.example"], rooms, with_q, "", 0),
     ]
@@ -144,14 +145,13 @@ def answers_at_once(program):
 
 def main():
     program = pathlib.Path(sys.argv[1] if len(sys.argv) > 1 else FED / "out" / "fed").resolve()
-    passed = {f"fed {words}, given {given!r}": prints(program, words, given, *want) for words, given, *want in cases()}
-    passed |= {f"fed {words} > /dev/full": output_fails(program, words) for words in (["--help"], ["--version"], [])}
-    passed["fed < /"] = input_fails(program)
-    passed["answers before the next line"] = answers_at_once(program)
-    for name in (name for name, good in passed.items() if not good):
+    passed = [(f"fed {words}, given {given[:200]!r}", prints(program, words, given, *want)) for words, given, *want in cases()]
+    passed += [(f"fed {words} > /dev/full", output_fails(program, words)) for words in (["--help"], ["--version"], [])]
+    passed += [("fed < /", input_fails(program)), ("answers before the next line", answers_at_once(program))]
+    failed = [name for name, good in passed if not good]
+    for name in failed:
         print(f"failed: {name}")
-    failed = list(passed.values()).count(False)
-    print(f"{len(passed) - failed} passed, {failed} failed")
+    print(f"{len(passed) - len(failed)} passed, {len(failed)} failed")
     sys.exit(1 if failed else 0)
 
 
