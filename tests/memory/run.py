@@ -1,9 +1,19 @@
 #!/usr/bin/env python3
-"""Refuses each allocation of the built program in turn (crates/fed/out/fed, after `rt run` there).
+"""Refuses each allocation of the built program in turn: crates/fed/out/fed, after `rt run` there, or the program that is named.
 
-The input is the program's sample lines and a transaction of events with every verdict after the tests of an event, each line twice,
-so that one whose answer was refused for want of memory comes again. For every allocation, until a run meets no refusal: either one answer alone is 500 and all others are as always, that
-of the same line sent again too, or the program ends with `fed: out of memory` after a front of its answers.
+    tests/memory/run.py [PROGRAM]
+
+The input is the program's sample lines and a transaction of events with every verdict after the tests of an event, each line three
+times. It fails unless
+
+- each run either answers every line, one of them by 500 and all others as without a refusal, and ends with status 0; or ends with
+  `fed: out of memory` and status 1 after a front of the usual answers, with no 500 among them; or shows nothing of the refusal;
+- some runs end so before the first answer, and some after one;
+- for each line of the listed server, and each of its three times, there is a run in which that answer is 500: so a run goes on after a
+  500, to its last line.
+
+A line whose answer was 500 at its first or second time is thus seen to get its usual answer afterwards: a 500 is not kept as a reply,
+and a reply that is kept stays. What was taken no line of the program tells.
 """
 import base64
 import hashlib
@@ -17,6 +27,7 @@ import tempfile
 HERE = pathlib.Path(__file__).resolve().parent
 FED = HERE.parent.parent / "crates" / "fed"
 REFUSED = b'500 {"errcode":"M_UNKNOWN","error":"out of memory"}'
+TIMES = 3
 
 
 def text(value):
@@ -51,49 +62,62 @@ def transaction():
     return b"a.example 9-1 " + text(body), b"200 " + text({"pdus": verdicts})
 
 
-def doubled(path, last):
-    return [line for line in [*path.read_bytes().splitlines(), last] for _ in range(2)]
+def repeated(path, last):
+    return [line for line in [*path.read_bytes().splitlines(), last] for _ in range(TIMES)]
 
 
-def run(shim, at, folder, lines):
+def run(program, shim, at, folder, lines):
     log = folder / f"refused-{at}"
     env = dict(os.environ, LD_PRELOAD=str(shim), REFUSE_AT=str(at), REFUSE_LOG=str(log))
-    done = subprocess.run([FED / "out" / "fed"], input=b"\n".join(lines) + b"\n", env=env, capture_output=True)
+    done = subprocess.run([program], input=b"\n".join(lines) + b"\n", env=env, capture_output=True)
     return done, log.exists()
 
 
 def judge(done, want):
+    """What a run shows, and at which answer; None where it is wrong."""
     got = done.stdout.splitlines()
-    if done.returncode == 1:
-        ended = done.stderr == b"fed: out of memory\n"
-        return "ended" if ended and got == want[: len(got)] else None
-    if done.returncode != 0 or len(got) != len(want):
+    if done.returncode == 1 and done.stderr == b"fed: out of memory\n" and got == want[: len(got)]:
+        return "ended", len(got)
+    if done.returncode != 0 or done.stderr or len(got) != len(want):
         return None
-    others = [i for i, line in enumerate(got) if line != want[i]]
+    others = [place for place, line in enumerate(got) if line != want[place]]
     if not others:
-        return "unseen"
-    return "answered 500" if len(others) == 1 and got[others[0]] == REFUSED else None
+        return "nothing", len(got)
+    return ("500", others[0]) if len(others) == 1 and got[others[0]] == REFUSED else None
+
+
+def seen_in(program, shim, folder, lines, want):
+    """What each run shows, up to the first that meets no refusal."""
+    seen = []
+    for at in range(1, 1_000_000):
+        done, refused = run(program, shim, at, folder, lines)
+        shown = judge(done, want)
+        if not refused and shown == ("nothing", len(want)):
+            return seen
+        if not refused or shown is None:
+            sys.exit(f"allocation {at}: status {done.returncode}, {done.stdout!r}, {done.stderr!r}")
+        seen.append(shown)
+    sys.exit("the allocations do not end")
 
 
 def main():
+    program = pathlib.Path(sys.argv[1] if len(sys.argv) > 1 else FED / "out" / "fed").resolve()
     line, answer = transaction()
-    lines, want = doubled(FED / "stdin", line), doubled(FED / "stdout", answer)
-    counts = {"ended": 0, "unseen": 0, "answered 500": 0}
+    lines, want = repeated(FED / "stdin", line), repeated(FED / "stdout", answer)
     with tempfile.TemporaryDirectory() as name:
         folder = pathlib.Path(name)
         shim = folder / "refuse.so"
         subprocess.run(["cc", "-shared", "-fPIC", "-O1", "-o", shim, HERE / "refuse.c", "-ldl"], check=True)
-        for at in range(1, 1_000_000):
-            done, refused = run(shim, at, folder, lines)
-            if not refused:
-                if done.stdout.splitlines() != want or done.returncode != 0:
-                    sys.exit("a run without a refusal is wrong")
-                print(f"{at - 1} allocations refused in turn:", ", ".join(f"{n} {what}" for what, n in counts.items()))
-                return
-            verdict = judge(done, want)
-            if verdict is None:
-                sys.exit(f"allocation {at} refused: status {done.returncode}, {done.stdout!r}, {done.stderr!r}")
-            counts[verdict] += 1
+        seen = seen_in(program, shim, folder, lines, want)
+    ended = [place for shown, place in seen if shown == "ended"]
+    if not any(ended) or all(ended):
+        sys.exit("no run ended with `fed: out of memory` before the first answer, or none after it")
+    for place, line in enumerate(lines):
+        if line.startswith(b"a.example ") and ("500", place) not in seen:
+            sys.exit(f"no run went on after a 500 at line {place + 1}: {line!r}")
+    answered = sum(shown == "500" for shown, _ in seen)
+    print(f"{len(seen)} allocations refused in turn: {answered} made one answer 500, {len(ended)} ended the run")
 
 
-main()
+if __name__ == "__main__":
+    main()

@@ -1,4 +1,5 @@
 pub mod Writes
 pub mod WordLemmas
 pub mod LineLemmas
+pub mod Limit
 pub mod Reached

@@ -130,9 +130,6 @@ module _ (known : Option (List ℕ)) (start : InboxState) (before now : Option (
   wrong_words then line took is =
       if_known known (λ bytes reached. let (more, _, first) = words_next start _ before now inbox left number reached line then None took is in wrong start _ before now inbox left number reached (words_in more) first) runs
 
-  pub too_many : Ends known start before now (Err Io)
-  too_many = if_known known (λ bytes reached. cut_here start _ before now inbox left number reached) runs
-
   pub read_fails : (kind : ErrorKind) (result : Result (Unit {0}) RunFault) → IsErrAnd result (IsFaultOf kind) → Ends known start before now result
   read_fails kind result of = if_known known (λ bytes reached. by_result start _ before now kind result of (cut_here start _ before now inbox left number reached)) runs
 
@@ -163,7 +160,3 @@ by_memory start words before (Err fault) of = subst (λ f. IsEnd start words bef
 pub no_memory : (known : Option (List ℕ)) (start : InboxState) (before : Option (List ℕ)) (result : Result (Unit {0}) RunFault) → IsErrAnd result (λ fault. fault ≡ Memory) → Ends known start before before result
 no_memory None start before result of = tt
 no_memory (Some bytes) start before result of = by_memory start (words_in bytes) before result of
-
-pub no_buffer : (known : Option (List ℕ)) (start : InboxState) (before : Option (List ℕ)) (kind : ErrorKind) (result : Result (Unit {0}) RunFault) → IsErrAnd result (IsFaultOf kind) → Ends known start before before result
-no_buffer None start before kind result of = tt
-no_buffer (Some bytes) start before kind result of = by_result start (words_in bytes) before before kind result of (nothing_written start (words_in bytes) before)

@@ -6,3 +6,4 @@ pub mod Fault
 pub mod Ends
 pub mod Setup
 pub mod Steps
+pub mod Input

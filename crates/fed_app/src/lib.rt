@@ -3,12 +3,12 @@
 //! - `lines`: `inbox_run`, lines of transactions in, lines of replies out
 //! - `setup`: `InboxSetup`, whose inbox it is
 //! - `words`: the parts of a line
-//! - `limited`: a reader that may be asked so many times
+//! - `input`: the lines of a reader that may be asked so many times
 //! - `fault`: how a run ends early
 #![tactic(auto)]
 
 mod fault;
-mod limited;
+mod input;
 mod lines;
 mod setup;
 mod words;

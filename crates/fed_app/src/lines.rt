@@ -1,14 +1,14 @@
 // Lines of transactions in, lines of replies out.
-ghost use Rattle.std.specs.Prelude.{◌≡◌, ◌++◌, OnOk, IfSome};
-ghost use Rattle.std.specs.Io.BufRead.{strip_last};
+ghost use Rattle.std.specs.Prelude.{◌≡◌, ◌++◌, ◌<◌, ◌≤◌, ◌*◌, ◌^◌, length, OnOk, IfSome};
+ghost use Rattle.fed_app.specs.Input.{left_of, room_of};
 ghost use Rattle.fed_app.specs.Lines.{words_in};
 ghost use Rattle.fed_app.specs.Output.{line_of};
 ghost use Rattle.fed_app.specs.Ends.{IsEnd};
 ghost use Rattle.fed_app.specs.Setup.{first_inbox};
-ghost use Rattle.fed_app.specs.Steps.{TakesLine, WritesLine};
+ghost use Rattle.fed_app.specs.Steps.{WritesLine};
 
 use crate::fault::RunFault;
-use crate::limited::Limited;
+use crate::input::Input;
 use crate::setup::InboxSetup;
 use crate::words::words_of;
 use fed_event::Trusting;
@@ -16,13 +16,10 @@ use fed_inbox::{Inbox, Reply};
 use fed_json::NoMemory;
 use std::alloc::Global;
 use std::io;
-use std::io::{BufRead, BufReader, ErrorKind, Read, Write};
+use std::io::{ErrorKind, Read, Write};
 
 /// How often the input is read at most.
 pub const MAX_READS: u64 = 40_000_000;
-
-// How many bytes are read at once.
-const BUFFER: usize = 65_536;
 
 /// Reads lines `<origin> <txnId> <body>` and writes, for each of them, the line `<status> <reply body>` of an inbox that begins
 /// empty (Server-Server API, "Transactions"). Every signature of an event that decodes counts as right. Each line is written and
@@ -41,8 +38,9 @@ pub fn inbox_run<R: Read + Drop, W: Write>(
     writer: &mut W,
     setup: InboxSetup,
 ) -> Result<(), RunFault>
-    ensures { IfSome (R.remaining reader) (λ input.
+    ensures run { IfSome (R.remaining reader) (λ input.
         IsEnd (first_inbox setup) (words_in input) (W.contents writer.old) (W.contents writer.new) result) }
+    ensures limit { OnOk result (IfSome (R.remaining reader) (λ input. length input ≤ MAX_READS * 65536)) }
 {
     let InboxSetup {
         own,
@@ -51,57 +49,35 @@ pub fn inbox_run<R: Read + Drop, W: Write>(
     } = setup;
     let keys = Trusting::new(String::from_str(alloc, &own)?);
     let inbox = Inbox::new(alloc, own, servers, rooms)?;
-    let mut input = BufReader::with_capacity(alloc, BUFFER, Limited::new(reader, MAX_READS))?;
+    let mut input = Input::new(alloc, reader, MAX_READS)?;
     answer_lines(alloc, inbox, &keys, &mut input, writer)
 }
 
 // Answers the lines of an input, one after another.
-fn answer_lines<B: BufRead, W: Write>(
+fn answer_lines<R: Read, W: Write>(
     alloc: Global,
     mut inbox: Inbox,
     keys: &Trusting,
-    input: &mut B,
+    input: &mut Input<R>,
     writer: &mut W,
 ) -> Result<(), RunFault>
-    ensures { IfSome (B.remaining input.old) (λ bytes.
+    requires { room_of input.old < 2 ^ 63 }
+    ensures run { IfSome (left_of R.remaining input.old) (λ bytes.
         IsEnd inbox.state (words_in bytes) (W.contents writer.old) (W.contents writer.new) result) }
+    ensures limit { OnOk result (IfSome (left_of R.remaining input.old) (λ bytes. length bytes ≤ room_of input.old)) }
 {
     let mut line = Vec::new(alloc);
     let mut out = Vec::new(alloc);
-    for number in 1..u64::MAX {
-        if !read_line(input, &mut line)? {
-            return Ok(());
-        }
+    let mut number = 1;
+    while input.read_line(&mut line)? {
         let Some(words) = words_of(&line) else {
             return Err(RunFault::WrongWords { line: number });
         };
         let reply = inbox.answer_body(alloc, words.origin, words.txn, words.body, keys);
         write_reply(writer, &mut out, &reply)?;
+        number += 1;
     }
-    // More lines than the input can be read for.
-    Err(RunFault::Io)
-}
-
-// Reads a line without its newline, in the place of the one before. False where nothing is left.
-fn read_line<B: BufRead>(input: &mut B, line: &mut Vec<u8>) -> io::Result<bool>
-    ensures { IfSome (B.remaining input.old) (λ bytes.
-        TakesLine bytes (B.remaining input.new) line.new.items result) }
-{
-    line.clear();
-    if input.read_until(b'\n', line)? == 0 {
-        return Ok(false);
-    }
-    pop_newline(line);
-    Ok(true)
-}
-
-fn pop_newline(line: &mut Vec<u8>)
-    ensures { line.new.items ≡ strip_last 10 line.old.items }
-{
-    let len = line.len();
-    if len > 0 && line[len - 1] == b'\n' {
-        line.truncate(len - 1);
-    }
+    Ok(())
 }
 
 // Writes and flushes the line of a reply. `out` is room for it.
@@ -126,7 +102,8 @@ fn append_line(out: &mut Vec<u8>, reply: &Reply) -> Result<(), NoMemory>
     Ok(())
 }
 
-// Writes all the bytes. Where a write fails, the writes before it wrote a front of them, which `write_all` doesn't say.
+// Writes all the bytes. Where a write fails, the writes before it wrote a front of them, which `write_all` doesn't say. A turn writes
+// a byte or is interrupted, and no writer is interrupted so often that the loop ends without an answer.
 fn write_whole<W: Write>(writer: &mut W, bytes: &[u8]) -> io::Result<()>
     ensures { WritesLine (W.contents writer.old) (W.contents writer.new) bytes.now result }
 {

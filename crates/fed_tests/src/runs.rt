@@ -31,6 +31,8 @@ const OUTPUT: &str = "\
 200 {\"pdus\":{}}
 ";
 
+const NOT_LISTED: &str = "403 {\"errcode\":\"M_FORBIDDEN\",\"error\":\"server not listed\"}\n";
+
 // The inbox of `b.example`, which takes from `a.example`.
 fn setup(alloc: Global) -> Result<InboxSetup, AllocError> {
     let mut servers = Vec::new(alloc);
@@ -143,6 +145,22 @@ fn bytes_in_small_pieces(rt: HostRuntime) -> Result<(), Fail> {
             assert_eq!(rt; writer.bytes.as_slice(), OUTPUT.as_bytes());
         }
     }
+    Ok(())
+}
+
+#[test]
+fn a_run_of_a_thousand_lines(rt: HostRuntime) -> Result<(), Fail> {
+    let alloc = rt.alloc();
+    let mut input = Vec::new(alloc);
+    let mut output = Vec::new(alloc);
+    for _ in 0..1_000 {
+        input.extend_from_slice("x.example 1 {}\n".as_bytes())?;
+        output.extend_from_slice(NOT_LISTED.as_bytes())?;
+    }
+    let mut written = Vec::new(alloc);
+    let ended = inbox_run(alloc, input.as_slice(), &mut written, setup(alloc)?);
+    assert_eq!(rt; ended, Ok(()));
+    assert_eq!(rt; written.as_slice(), output.as_slice());
     Ok(())
 }
 
