@@ -3,3 +3,4 @@ pub mod WordLemmas
 pub mod LineLemmas
 pub mod Limit
 pub mod Reached
+pub mod Newlines

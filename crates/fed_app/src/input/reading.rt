@@ -7,6 +7,7 @@ ghost use Rattle.fed_app.specs.Steps.{TakesLine};
 
 use super::Input;
 use fed_json::NoMemory;
+use memchr::memchr;
 use std::alloc::Global;
 use std::io;
 use std::io::{ErrorKind, Read};
@@ -112,5 +113,5 @@ fn newline_in(bytes: &[u8]) -> Option<usize>
     ensures place { result ≡ position is_newline bytes.now }
     ensures within { IfSome result (λ place. place < length bytes.now) }
 {
-    bytes.iter().position(|byte| *byte == b'\n')
+    memchr(b'\n', bytes)
 }
