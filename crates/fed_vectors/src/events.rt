@@ -68,7 +68,7 @@ fn event_given(call: Arguments<'_>) -> Result<Pdu, Stop> {
 
 pub(crate) fn check_in(call: Arguments<'_>) -> Answer {
     let keys = call.keys(call.text("own")?)?;
-    let checked = checked_in(call.alloc, &keys, call.value("value")?)?;
+    let checked = checked_in(call.alloc, &keys, call.value("value")?)?.copy(call.alloc)?;
     Object::new(call.alloc)
         .with("authorised", truth(call.alloc, checked.is_authorised()))
         .with("event", copy(checked.event().json().root()))

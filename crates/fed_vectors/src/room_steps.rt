@@ -81,7 +81,7 @@ fn told_of(alloc: Global, id: &EventId, receipt: Receipt) -> Answer {
 }
 
 fn send<R: RoomEngine>(operation: Arguments<'_>, room: &mut R, keys: &KeyRing) -> Answer {
-    let draft = draft(operation, "send")?;
+    let draft = draft(operation, "send")?.copy(operation.alloc)?;
     told_of_draft(operation.alloc, keys.send(operation.alloc, room, draft))
 }
 

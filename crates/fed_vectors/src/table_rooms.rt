@@ -35,7 +35,7 @@ fn table(call: Arguments<'_>) -> Result<Table, Stop> {
     Ok(table)
 }
 
-// The state of a list of entries `[type, state key, value]`, at each of which the id of the value stands.
+// A copy of the state of a list of entries `[type, state key, value]`, at each of which the id of the value stands.
 fn state(call: Arguments<'_>, name: &str) -> Result<State, Stop> {
     let mut state = State::new(call.alloc);
     for item in call.items(name)? {
@@ -45,7 +45,7 @@ fn state(call: Arguments<'_>, name: &str) -> Result<State, Stop> {
         let id = event_id(call.alloc, &value.to_json()?)?;
         state.insert(call.alloc, kind, state_key, id)?;
     }
-    Ok(state)
+    Ok(state.copy(call.alloc)?)
 }
 
 // The type, the state key and the value of an entry.
