@@ -68,7 +68,7 @@ fn answer_lines<R: Read, W: Write>(
 {
     let mut line = Vec::new(alloc);
     let mut out = Vec::new(alloc);
-    let mut number = 1;
+    let mut number: u64 = 1;
     while input.read_line(&mut line)? {
         let Some(words) = words_of(&line) else {
             return Err(RunFault::WrongWords { line: number });

@@ -14,8 +14,13 @@ use std::alloc::Global;
 pub(crate) fn allowed(call: Arguments<'_>) -> Answer {
     let keys = call.keys("")?;
     let graph = graph(call, &keys)?;
-    let state = state(call, &graph)?;
-    match fed_auth::allowed(&graph, &event(call, &keys)?, &state) {
+    allowed_in(call, &keys, &graph)
+}
+
+fn allowed_in(call: Arguments<'_>, keys: &KeyRing, graph: &Graph) -> Answer {
+    let state = state(call, graph)?;
+    let event = event(call, keys)?;
+    match fed_auth::allowed(graph, &event, &state) {
         Ok(()) => null(call.alloc),
         Err(rule) => Err(rejected(call.alloc, rule)),
     }
@@ -24,28 +29,38 @@ pub(crate) fn allowed(call: Arguments<'_>) -> Answer {
 pub(crate) fn auth_state(call: Arguments<'_>) -> Answer {
     let keys = call.keys("")?;
     let graph = graph(call, &keys)?;
-    let event = event(call, &keys)?;
-    match fed_auth::auth_state(call.alloc, &graph, event.event())? {
-        Ok(state) => {
-            let entries = state.entries(call.alloc)?;
-            let mut places = List::new(call.alloc);
-            for entry in &entries {
-                places = places.with(place_of(call.alloc, &graph, entry.id));
-            }
-            places.into_answer()
-        }
+    auth_state_in(call, &keys, &graph)
+}
+
+fn auth_state_in(call: Arguments<'_>, keys: &KeyRing, graph: &Graph) -> Answer {
+    let event = event(call, keys)?;
+    match fed_auth::auth_state(call.alloc, graph, event.event())? {
+        Ok(state) => places_of(call.alloc, graph, &state),
         Err(rule) => Err(rejected(call.alloc, rule)),
     }
+}
+
+// The places of the events that a state names.
+fn places_of(alloc: Global, graph: &Graph, state: &State) -> Answer {
+    let mut places = List::new(alloc);
+    for entry in &state.entries(alloc)? {
+        places = places.with(place_of(alloc, graph, entry.id));
+    }
+    places.into_answer()
 }
 
 pub(crate) fn selection(call: Arguments<'_>) -> Answer {
     let keys = call.keys("")?;
     let graph = graph(call, &keys)?;
-    let state = state(call, &graph)?;
     let event = event(call, &keys)?;
+    selection_in(call, &graph, event.event())
+}
+
+fn selection_in(call: Arguments<'_>, graph: &Graph, event: &Pdu) -> Answer {
+    let state = state(call, graph)?;
     let mut places = List::new(call.alloc);
-    for id in &fed_auth::selection(call.alloc, event.event(), &state)? {
-        places = places.with(place_of(call.alloc, &graph, id));
+    for id in &fed_auth::selection(call.alloc, event, &state)? {
+        places = places.with(place_of(call.alloc, graph, id));
     }
     places.into_answer()
 }

@@ -3,7 +3,7 @@
 use crate::answer::{Answer, Stop};
 use crate::arguments::Arguments;
 use crate::key_ring::{KeyRing, Request};
-use crate::made::{List, Object, copy, number, text_of_bytes, texts_of_bytes};
+use crate::made::{List, Object, copy, number, taken_texts, text_of_bytes};
 use fed_app::{InboxSetup, inbox_run};
 use fed_event::Checked;
 use fed_inbox::{Inbox, Reply};
@@ -24,8 +24,8 @@ fn with_taken(call: Arguments<'_>, answers: Json, inbox: &Inbox) -> Answer {
     let mut pdus = Object::new(call.alloc);
     let mut edus = Object::new(call.alloc);
     for server in &call.strings("servers")? {
-        pdus = pdus.with(server, texts_of_bytes(call.alloc, inbox.taken(server)));
-        edus = edus.with(server, texts_of_bytes(call.alloc, inbox.taken_edus(server)));
+        pdus = pdus.with(server, taken_texts(call.alloc, inbox.taken(server)));
+        edus = edus.with(server, taken_texts(call.alloc, inbox.taken_edus(server)));
     }
     Object::new(call.alloc)
         .with("answers", Ok(answers))

@@ -2,6 +2,7 @@
 
 use crate::answer::{Answer, Stop};
 use fed_event::EventId;
+use fed_inbox::Taken;
 use fed_json::{Json, JsonRef, MAX_LEVELS, read_within};
 use std::alloc::Global;
 
@@ -47,8 +48,8 @@ pub(crate) fn text_of_bytes(alloc: Global, bytes: &[u8]) -> Answer {
     Ok(Json::from(String::from_utf8_lossy(alloc, bytes)?))
 }
 
-/// The list of the texts that these bytes are.
-pub(crate) fn texts_of_bytes(alloc: Global, texts: &[Vec<u8>]) -> Answer {
+/// The list of the texts that were taken.
+pub(crate) fn taken_texts(alloc: Global, texts: Taken<'_>) -> Answer {
     let mut list = List::new(alloc);
     for bytes in texts {
         list = list.with(text_of_bytes(alloc, bytes));
