@@ -1,10 +1,10 @@
 -- What requests bring for the rooms: checked events of known rooms, and of one request no two of one id.
-use Rattle.std.proofs.Common.{arith, zero, suc, ◌≡◌, ◌≢◌, ℕ, List, [], ◌∷◌, ◌++◌, map, filter, Bool, true, false, ◌&&◌, ◌||◌, not, cond, if◌then◌else◌, Option, Some, None, is_some, is_none, option_map, bytes_eq, codes, refl, sym, ap, subst, ◌∙◌, inl, inr}
-use Rattle.std.proofs.lemmas.Bool.{cases_Bool, false≢true}
+use Rattle.std.proofs.Common.{arith, zero, suc, ◌≡◌, ◌≢◌, ℕ, List, [], ◌∷◌, map, filter, Bool, true, false, ◌&&◌, ◌||◌, not, if◌then◌else◌, Option, Some, None, is_some, is_none, option_map, bytes_eq, codes, refl, sym, ap, subst, ◌∙◌, inl, inr}
+use Rattle.std.proofs.lemmas.Bool.{false≢true}
 use Rattle.std.proofs.lemmas.List.Elements.{All-nil, All-cons, All-append, All-map, All-weaker, filter_passes}
 use Rattle.std.proofs.lemmas.List.Kept.{AllPairs-cons, AllPairs-filter}
 use Rattle.std.proofs.lemmas.Slice.Eq.{bytes_eq-Decides}
-use Rattle.std.specs.List.{All, AllPairs, slice_index_or}
+use Rattle.std.specs.List.{All, AllPairs}
 use Rattle.serde_json.specs.Data.{Data}
 use Rattle.serde_json.specs.Find.{as_object}
 use Rattle.fed_event.specs.declared.fault.PduFault.{PduFault}
@@ -20,7 +20,7 @@ use Rattle.fed_event.proofs.CheckedFields.{id_kept, room_kept}
 use Rattle.fed_inbox.specs.Inbox.{InboxState}
 use Rattle.fed_inbox.specs.Taking.{first_text, unless, verdict_on, firsts_but, firsts, passing, fresh_of}
 use Rattle.fed_inbox.specs.Answer.{Request, after, marked_answer, marked_after, marked_fresh}
-use Rattle.fed_inbox.specs.Runs.{Asked, after_all, fresh_all, IsForRooms}
+use Rattle.fed_inbox.specs.Runs.{Asked, fresh_all, IsForRooms}
 use Rattle.fed_inbox.proofs.Cases.{RequestCases, cases}
 
 -- an event has no verdict where it passes all that a verdict can come from

@@ -1,10 +1,10 @@
 -- Logs and the texts in them.
-use Rattle.std.proofs.Common.{◌≡◌, ℕ, ◌+◌, List, [], ◌∷◌, ◌++◌, Vec, Bor, Option, None, Some, option_map, take, drop, sum, length, refl, sym, ap, ◌∙◌, append_assoc}
+use Rattle.std.proofs.Common.{◌≡◌, ℕ, List, [], ◌∷◌, ◌++◌, Vec, Bor, Option, None, Some, option_map, refl, sym, ap, ◌∙◌, append_assoc}
 use Rattle.std.proofs.lemmas.List.{append-nil}
 use Rattle.std.specs.declared.alloc.Global.{Global}
 use Rattle.fed_json.specs.TextMap.{TextMap}
 use Rattle.fed_inbox.specs.Log.{LogState}
-use Rattle.fed_inbox.specs.TextList.{texts_in, joined}
+use Rattle.fed_inbox.specs.TextList.{joined}
 
 pub same_log : {o o' : List ℕ} {r r' : TextMap (List ℕ)} {p p' e e' : List (List ℕ)} → o ≡ o' → r ≡ r' → p ≡ p' → e ≡ e'
     → ◌≡◌ {A = LogState} (record { origin = o; replies = r; pdus = p; edus = e }) (record { origin = o'; replies = r'; pdus = p'; edus = e' })

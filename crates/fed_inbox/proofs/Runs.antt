@@ -4,15 +4,13 @@ use Rattle.std.proofs.lemmas.Bool.{cases_Bool}
 use Rattle.std.proofs.lemmas.List.{append-nil}
 use Rattle.std.proofs.lemmas.Slice.Eq.{bytes_eq-Decides}
 use Rattle.std.specs.FinMap as finite
-use Rattle.std.specs.Cmp.Lexicographic.{slice_cmp, nat_list_cmp_total}
-use Rattle.std.specs.Ordering.{is_eq, nat_cmp}
+use Rattle.std.specs.Cmp.Lexicographic.{nat_list_cmp_total}
 use Rattle.std.proofs.lemmas.Map.Text.{is_eq-slice_cmp}
 use Rattle.fed_json.specs.TextMap.{TextMap}
 use Rattle.fed_event.specs.Keys.{Checks}
 use Rattle.fed_event.specs.Checked.{CheckedEvent}
 use Rattle.fed_inbox.specs.declared.refusal.Refusal.{Refusal}
 use Rattle.fed_inbox.specs.declared.refusal.Refusal.TheVariants.{ServerNotListed, BodyTooLarge, NotJson, NotCanonical, OriginDiffers, BadField, TooManyPdus, TooManyEdus, OutOfMemory}
-use Rattle.fed_inbox.specs.Refusal.{error_reply}
 use Rattle.fed_inbox.specs.Reply.{Answer, accepted, refused}
 use Rattle.fed_inbox.specs.Log.{LogState}
 use Rattle.fed_inbox.specs.Taking.{taking_of}
@@ -20,7 +18,7 @@ use Rattle.fed_inbox.specs.Inbox.{InboxState, log_at, pdus_by, edus_by}
 use Rattle.fed_inbox.specs.Answer.{Request, with_taking, marked_answer, marked_after, marked_fresh}
 use Rattle.fed_inbox.specs.Runs.{Asked, answers, after_all, fresh_all, reply_by, kept_reply, comes_first, WasAnswered, Takes, IsRepeatAnswer}
 use Rattle.fed_inbox.proofs.FoundLogs.{same_or_not}
-use Rattle.fed_inbox.proofs.Cases.{Nothing, Repeat, First, RequestCases, cases, other_stays}
+use Rattle.fed_inbox.proofs.Cases.{First, RequestCases, cases, other_stays}
 
 -- ---- look-ups
 

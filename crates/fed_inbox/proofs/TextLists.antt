@@ -1,10 +1,10 @@
 -- Texts that lie one after another in one buffer.
-use Rattle.std.proofs.Common.{arith, suc, ◌≡◌, ℕ, ◌+◌, ◌==◌, ◌≤◌, List, [], ◌∷◌, ◌++◌, Bor, Bool, true, false, Option, None, Some, MatchOption, take, drop, sum, length, refl, sym, ap, ◌∙◌, subst}
+use Rattle.std.proofs.Common.{arith, suc, ◌≡◌, ℕ, ◌+◌, ◌==◌, ◌≤◌, List, [], ◌∷◌, ◌++◌, Bor, false, Option, None, Some, MatchOption, take, drop, sum, length, refl, sym, ap, ◌∙◌}
 use Rattle.std.proofs.lemmas.Bool.{false≢true}
 use Rattle.std.proofs.lemmas.List.{take-append-le, drop-append-le, length-drop}
 use Rattle.std.proofs.lemmas.List.Sums.{sum_by-cons}
 use Rattle.std.proofs.Math.Seq.{take-length}
-use Rattle.fed_inbox.specs.TextList.{texts_in, joined}
+use Rattle.fed_inbox.specs.TextList.{texts_in}
 
 -- one more text at the end
 pub texts_in-push : (lengths bytes text : List ℕ) → sum lengths ≡ length bytes → texts_in (lengths ++ length text ∷ []) (bytes ++ text) ≡ texts_in lengths bytes ++ text ∷ []

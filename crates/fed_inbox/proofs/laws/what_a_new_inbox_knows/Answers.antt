@@ -1,4 +1,4 @@
-use Rattle.std.proofs.Common.{ℕ, List, [], Bool, true, false, ◌&&◌, not, bytes_eq, Option, None, Some, if◌then◌else◌, ◌≡◌, refl, ap, ◌∙◌}
+use Rattle.std.proofs.Common.{ℕ, List, [], Bool, true, false, ◌&&◌, not, bytes_eq, None, Some, if◌then◌else◌, ◌≡◌, refl, ap, ◌∙◌}
 use Rattle.std.specs.FinMap as finite
 use Rattle.std.specs.Cmp.Lexicographic.{slice_cmp}
 use Rattle.std.specs.Ordering.{nat_cmp}

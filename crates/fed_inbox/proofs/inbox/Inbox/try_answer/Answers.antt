@@ -1,6 +1,5 @@
-use Rattle.std.proofs.Common.{◌≡◌, ◌<◌, ◌∙◌, None, Some, Ok, Err, IsSome, length, sym, ap, subst, set, string_bytes}
+use Rattle.std.proofs.Common.{◌≡◌, ◌<◌, None, Some, Ok, IsSome, length, sym, subst, set, string_bytes}
 use Rattle.std.specs.List.{position}
-use Rattle.serde_json.specs.Data.{Data}
 use Rattle.fed_txn.specs.Reading.{body_of}
 use Rattle.fed_inbox.specs.Log.{LogState}
 use Rattle.fed_inbox.specs.Inbox.{InboxState, Held, is_of}

@@ -1,4 +1,4 @@
-use Rattle.std.proofs.Common.{◌≡◌, ◌++◌, ◌∷◌, [], ap, ◌∙◌, sym, length, is_ok, if◌then◌else◌}
+use Rattle.std.proofs.Common.{◌≡◌, ◌++◌, ◌∷◌, [], ap, ◌∙◌, length, is_ok, if◌then◌else◌}
 use Rattle.fed_inbox.specs.TextList.{texts_in}
 use Rattle.fed_inbox.proofs.TextLists.{texts_in-push}
 use Rattle.fed_inbox.proofs.text_list.TextList.push.Goals as goal
