@@ -1,0 +1,24 @@
+// What a journal holds.
+use fed_dest::{ServerIndex, ServerSet};
+use fed_event::Checked;
+use fed_json::Json;
+
+/// Why an outbox was closed.
+#[derive(Clone, Copy, Debug, PartialEq, Eq)]
+pub enum Cause {
+    /// It was asked for; a last parcel tells the outbox.
+    Asked,
+    /// What takes the parcels for the destination is gone.
+    Lost,
+}
+
+/// An entry of a journal.
+#[derive(Drop)]
+pub enum Entry {
+    /// An event, for these destinations.
+    Event(Checked, ServerSet),
+    /// An ephemeral data unit, for these destinations.
+    Edu(Json, ServerSet),
+    /// The outbox of a destination was closed.
+    Close(ServerIndex, Cause),
+}

@@ -1,0 +1,3 @@
+pub mod Transaction
+pub mod Seen
+pub mod Outbox
