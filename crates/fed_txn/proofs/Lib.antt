@@ -2,3 +2,5 @@ pub mod Entries
 pub mod Poured
 pub mod Replies
 pub mod Bodies
+mod BodyText
+mod SentBodies

@@ -5,3 +5,6 @@ pub mod Verdicts
 pub mod Reply
 pub mod VerdictEntries
 pub mod Form
+pub mod Writing
+pub mod ArrayText
+pub mod WritingParts

@@ -2,18 +2,22 @@
 //!
 //! - `transaction`: `TransactionIn`, the parts of a transaction that came in, taken from a value
 //! - `reading`: from the bytes of a body to its transaction
+//! - `writing`: from a transaction that is sent to its body
+//! - `array_text`: the text of an array, written item by item
 //! - `verdicts`: `Verdicts`, what a server answers about each event of a transaction
 //! - `reply`: from verdicts to the reply body
 //! - `fault`: `TxnFault`, why a body is no transaction, and its error texts
 //! - `laws`: what holds of all replies
 #![tactic(auto)]
 
+mod array_text;
 mod fault;
 mod laws;
 mod reading;
 mod reply;
 mod transaction;
 mod verdicts;
+mod writing;
 
 pub use fault::{BodyField, TxnFault};
 pub use fed_json::NoMemory;
@@ -22,3 +26,4 @@ pub use reading::{MAX_BODY, read, read_body};
 pub use reply::write_reply;
 pub use transaction::{MAX_EDUS, MAX_PDUS, TransactionIn};
 pub use verdicts::Verdicts;
+pub use writing::write;
