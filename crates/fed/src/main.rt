@@ -4,7 +4,7 @@
 use anyhow::Result;
 use clap::error::ErrorKind;
 use clap::{Arg, ArgMatches, Command};
-use fed_app::{InboxSetup, RunFault, inbox_run};
+use fed_app::{InboxSetup, RunFault, SetupFault, inbox_run};
 use std::alloc::{AllocError, Global};
 use std::io;
 use std::process::ExitCode;
@@ -33,6 +33,8 @@ enum Stop {
     CommandLine(clap::Error),
     /// An argument is not UTF-8.
     NotText,
+    /// The servers that the words name make no list.
+    BadServers,
     Fault(RunFault),
 }
 
@@ -51,6 +53,15 @@ impl From<AllocError> for Stop {
     }
 }
 
+impl From<SetupFault> for Stop {
+    fn from(fault: SetupFault) -> Stop {
+        match fault {
+            SetupFault::Memory => Stop::Fault(RunFault::Memory),
+            SetupFault::BadServers => Stop::BadServers,
+        }
+    }
+}
+
 impl From<RunFault> for Stop {
     fn from(fault: RunFault) -> Stop {
         Stop::Fault(fault)
@@ -66,6 +77,10 @@ fn main(rt: HostRuntime) -> Result<ExitCode> {
         },
         Err(Stop::NotText) => {
             eprintln!(rt; "error: an argument is not UTF-8")?;
+            Ok(ExitCode::from(2))
+        }
+        Err(Stop::BadServers) => {
+            eprintln!(rt; "fed: {}", SetupFault::BadServers)?;
             Ok(ExitCode::from(2))
         }
         Err(Stop::Fault(fault)) => end_by(&rt, fault),
@@ -108,7 +123,7 @@ fn command<'a>(alloc: Global) -> Result<Command<'a>, AllocError> {
         .long("servers")
         .value_name("A,B")
         .default_value(SERVERS)
-        .help("The servers that it takes transactions from");
+        .help("The other servers, which it takes transactions from");
     let room = Arg::new(alloc, "room")
         .long("room")
         .value_name("R")
@@ -128,7 +143,7 @@ fn command<'a>(alloc: Global) -> Result<Command<'a>, AllocError> {
 }
 
 // The setup that the words ask for.
-fn setup_of(alloc: Global, matches: &ArgMatches<'_>) -> Result<InboxSetup, AllocError> {
+fn setup_of(alloc: Global, matches: &ArgMatches<'_>) -> Result<InboxSetup, Stop> {
     let inbox = matches.subcommand().map(|(_, inbox)| inbox);
     let word = |name: &str, default| match inbox {
         Some(inbox) => inbox.get_str(name).unwrap_or(default),
@@ -140,9 +155,5 @@ fn setup_of(alloc: Global, matches: &ArgMatches<'_>) -> Result<InboxSetup, Alloc
     for server in word("servers", SERVERS).split(',') {
         listed.push(String::from_str(alloc, server)?)?;
     }
-    Ok(InboxSetup {
-        own: String::from_str(alloc, word("name", NAME))?,
-        servers: listed,
-        rooms,
-    })
+    Ok(InboxSetup::read(alloc, word("name", NAME), &listed, rooms)?)
 }

@@ -5,5 +5,6 @@ pub mod Output
 pub mod Fault
 pub mod Ends
 pub mod Setup
+pub mod Servers
 pub mod Steps
 pub mod Input

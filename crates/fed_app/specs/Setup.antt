@@ -4,4 +4,4 @@ use Rattle.fed_inbox.specs.Inbox.{InboxState, new_inbox}
 use Rattle.fed_app.specs.declared.setup.InboxSetup.{InboxSetup}
 
 abbrev pub first_inbox : InboxSetup → InboxState
-first_inbox setup = new_inbox (string_bytes setup.own) (map string_bytes setup.servers.items) (map string_bytes setup.rooms.items)
+first_inbox setup = new_inbox setup.own setup.servers (map string_bytes setup.rooms.items)

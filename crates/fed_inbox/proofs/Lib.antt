@@ -9,3 +9,4 @@ pub mod ForRooms
 pub mod RoomSets
 pub mod Entering
 pub mod LookUps
+pub mod Origins

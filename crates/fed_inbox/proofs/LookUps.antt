@@ -1,5 +1,5 @@
 -- What a new inbox knows and what the verdicts of a transaction are, as look-ups.
-use Rattle.std.proofs.Common.{◌≡◌, ◌≢◌, ℕ, List, [], ◌∷◌, ◌++◌, Bool, true, false, ◌&&◌, ◌||◌, not, cond, if◌then◌else◌, Option, Some, None, option_map, is_some, find, bytes_eq, Less, Equal, Greater, nat_cmp, refl, sym, ap, ◌∙◌, ◌⊎◌, inl, inr}
+use Rattle.std.proofs.Common.{◌≡◌, ◌≢◌, ℕ, List, [], ◌∷◌, map, filter, Bool, true, false, ◌&&◌, ◌||◌, not, cond, if◌then◌else◌, Option, Some, None, option_map, is_some, find, bytes_eq, Less, Equal, Greater, nat_cmp, refl, sym, ap, ◌∙◌, ◌⊎◌, inl, inr}
 use Rattle.std.proofs.lemmas.Bool.{cases_Bool, false≢true}
 use Rattle.std.specs.List.{list_any}
 use Rattle.std.proofs.lemmas.Slice.Eq.{bytes_eq-Decides}
@@ -16,7 +16,7 @@ use Rattle.fed_event.specs.Keys.{Checks}
 use Rattle.fed_txn.specs.Verdicts.{VerdictMap}
 use Rattle.fed_inbox.specs.Log.{LogState}
 use Rattle.fed_inbox.specs.Rooms.{with_rooms}
-use Rattle.fed_inbox.specs.Inbox.{is_of, is_new, log_at, empty_log, with_server, with_servers}
+use Rattle.fed_inbox.specs.Inbox.{is_of, log_at, empty_log, logs_for}
 use Rattle.fed_inbox.specs.Taking.{firsts_but, verdict_on, with_verdicts}
 use Rattle.fed_inbox.specs.LookUps.{log_of_new, has_id}
 use Rattle.fed_inbox.proofs.FoundLogs.{same_or_not}
@@ -74,78 +74,47 @@ eq_false x y apart = by (cases_Bool (bytes_eq x y))
     by (inl t) = absurd (apart ((bytes_eq-Decides x y).0 t))
     by (inr f) = f
 
-abbrev or_else : Option LogState → Option LogState → Option LogState
-or_else (Some l) other = Some l
-or_else None other = other
-
-or_else_none : (o : Option LogState) → or_else o None ≡ o
-or_else_none (Some l) = refl
-or_else_none None = refl
-
-log_at-append : (q : List ℕ) (ls ms : List LogState) → log_at q (ls ++ ms) ≡ or_else (log_at q ls) (log_at q ms)
-log_at-append q [] ms = refl
-log_at-append q (l ∷ ls) ms =
-    elim (is_of q l) as (λ b. cond b (Some l) (log_at q (ls ++ ms)) ≡ or_else (cond b (Some l) (log_at q ls)) (log_at q ms))
-    [ true ↦ refl | false ↦ log_at-append q ls ms ]
-
-has_log : (q : List ℕ) (ls : List LogState) → list_any (is_of q) ls ≡ is_some (log_at q ls)
-has_log q [] = refl
-has_log q (l ∷ ls) =
-    elim (is_of q l) as (λ b. (b || list_any (is_of q) ls) ≡ is_some (cond b (Some l) (log_at q ls)))
-    [ true ↦ refl | false ↦ has_log q ls ]
-
--- a server changes nothing for another one
-other_server : (own : List ℕ) (ls : List LogState) (s q : List ℕ) → s ≢ q → log_at q (with_server own ls s) ≡ log_at q ls
-other_server own ls s q apart =
-    elim (is_new ls own s) as (λ b. log_at q (if b then ls ++ empty_log s ∷ [] else ls) ≡ log_at q ls) [
-      | true ↦ log_at-append q ls (empty_log s ∷ []) ∙ ap (λ b. or_else (log_at q ls) (cond b (Some (empty_log s)) None)) (eq_false s q apart) ∙ or_else_none (log_at q ls)
-      | false ↦ refl
-    ]
-
-not_first : (own s : List ℕ) (ss : List (List ℕ)) (q : List ℕ) → q ≢ s → log_of_new own ss q ≡ log_of_new own (s ∷ ss) q
-not_first own s ss q apart = ap (λ b. if (b || is_one_of ss q) && not (bytes_eq q own) then Some (empty_log q) else None) (sym (eq_false q s apart))
-
 and_false : (b : Bool) → (b && false) ≡ false
 and_false true = refl
 and_false false = refl
 
--- the own server
+-- the own server has no log, listed or not
 own_has_none : (own : List ℕ) (ss : List (List ℕ)) (q : List ℕ) → bytes_eq q own ≡ true → log_of_new own ss q ≡ None
 own_has_none own ss q t =
     ap (λ b. if is_one_of ss q && not b then Some (empty_log q) else None) t
     ∙ ap (λ b. if b then Some (empty_log q) else None) (and_false (is_one_of ss q))
 
-first_listed : (own : List ℕ) (ls : List LogState) (q : List ℕ) (ss : List (List ℕ)) → or_else (log_at q (with_server own ls q)) (log_of_new own ss q) ≡ or_else (log_at q ls) (log_of_new own (q ∷ ss) q)
-first_listed own ls q ss = by (cases_Bool (bytes_eq q own)) (log_at q ls) refl
-  where
-    new_by : (b c : Bool) → bytes_eq q own ≡ b → list_any (is_of q) ls ≡ c → with_server own ls q ≡ (if not b && not c then ls ++ empty_log q ∷ [] else ls)
-    new_by b c e f = ap (λ x. if not x && not (list_any (is_of q) ls) then ls ++ empty_log q ∷ [] else ls) e ∙ ap (λ y. if not b && not y then ls ++ empty_log q ∷ [] else ls) f
+not_first : (own s : List ℕ) (ss : List (List ℕ)) (q : List ℕ) → q ≢ s → log_of_new own ss q ≡ log_of_new own (s ∷ ss) q
+not_first own s ss q apart = ap (λ b. if (b || is_one_of ss q) && not (bytes_eq q own) then Some (empty_log q) else None) (sym (eq_false q s apart))
 
-    by : (bytes_eq q own ≡ true) ⊎ (bytes_eq q own ≡ false) → (o : Option LogState) → log_at q ls ≡ o
-        → or_else (log_at q (with_server own ls q)) (log_of_new own ss q) ≡ or_else (log_at q ls) (log_of_new own (q ∷ ss) q)
-    by (inl t) o e =
-        ap (λ n. or_else (log_at q n) (log_of_new own ss q)) (new_by true (list_any (is_of q) ls) t refl)
-        ∙ ap (or_else (log_at q ls)) (own_has_none own ss q t ∙ sym (own_has_none own (q ∷ ss) q t))
-    by (inr f) (Some l) e =
-        ap (λ n. or_else (log_at q n) (log_of_new own ss q)) (new_by false true f (has_log q ls ∙ ap is_some e))
-        ∙ ap (λ o. or_else o (log_of_new own ss q)) e ∙ ap (λ o. or_else o (log_of_new own (q ∷ ss) q)) (sym e)
-    by (inr f) None e =
-        ap (λ n. or_else (log_at q n) (log_of_new own ss q)) (new_by false false f (has_log q ls ∙ ap is_some e))
-        ∙ ap (λ o. or_else o (log_of_new own ss q)) (log_at-append q ls (empty_log q ∷ []) ∙ ap (λ o. or_else o (cond (bytes_eq q q) (Some (empty_log q)) None)) e
-        ∙ ap (λ b. cond b (Some (empty_log q)) None) (eq_true q))
-        ∙ sym (ap (λ o. or_else o (log_of_new own (q ∷ ss) q)) e
-        ∙ ap (λ b. if (b || is_one_of ss q) && not (bytes_eq q own) then Some (empty_log q) else None) (eq_true q)
-        ∙ ap (λ b. if not b then Some (empty_log q) else None) f)
+first_is : (own s : List ℕ) (ss : List (List ℕ)) → bytes_eq s own ≡ false → log_of_new own (s ∷ ss) s ≡ Some (empty_log s)
+first_is own s ss f =
+    ap (λ b. if (b || is_one_of ss s) && not (bytes_eq s own) then Some (empty_log s) else None) (eq_true s)
+    ∙ ap (λ b. if not b then Some (empty_log s) else None) f
 
-pub logs_listed : (own : List ℕ) (ls : List LogState) (servers : List (List ℕ)) (q : List ℕ) → log_at q (with_servers own ls servers) ≡ or_else (log_at q ls) (log_of_new own servers q)
-logs_listed own ls [] q = sym (or_else_none (log_at q ls))
-logs_listed own ls (s ∷ ss) q = logs_listed own (with_server own ls s) ss q ∙ by (same_or_not q s)
+-- the first of these servers has a log where it is not the own
+first_log : (own s : List ℕ) (ss : List (List ℕ)) (q : List ℕ) (b : Bool) → bytes_eq s own ≡ b
+    → log_at q (logs_for own (s ∷ ss)) ≡ (if b then log_at q (logs_for own ss) else cond (bytes_eq s q) (Some (empty_log s)) (log_at q (logs_for own ss)))
+first_log own s ss q true e = ap (λ x. log_at q (map empty_log (cond (not x) (s ∷ filter (λ server. not (bytes_eq server own)) ss) (filter (λ server. not (bytes_eq server own)) ss)))) e
+first_log own s ss q false e = ap (λ x. log_at q (map empty_log (cond (not x) (s ∷ filter (λ server. not (bytes_eq server own)) ss) (filter (λ server. not (bytes_eq server own)) ss)))) e
+
+pub logs_listed : (own : List ℕ) (servers : List (List ℕ)) (q : List ℕ) → log_at q (logs_for own servers) ≡ log_of_new own servers q
+logs_listed own [] q = refl
+logs_listed own (s ∷ ss) q = by (logs_listed own ss q) (cases_Bool (bytes_eq s own)) (same_or_not q s)
   where
-    by : (q ≡ s) ⊎ (q ≢ s) → or_else (log_at q (with_server own ls s)) (log_of_new own ss q) ≡ or_else (log_at q ls) (log_of_new own (s ∷ ss) q)
-    by (inl is) =
-        ap (λ x. or_else (log_at q (with_server own ls x)) (log_of_new own ss q)) (sym is) ∙ first_listed own ls q ss ∙ ap (λ x. or_else (log_at q ls) (log_of_new own (x ∷ ss) q)) is
-    by (inr apart) =
-        ap (λ o. or_else o (log_of_new own ss q)) (other_server own ls s q (λ e. apart (sym e))) ∙ ap (or_else (log_at q ls)) (not_first own s ss q apart)
+    by : log_at q (logs_for own ss) ≡ log_of_new own ss q → (bytes_eq s own ≡ true) ⊎ (bytes_eq s own ≡ false) → (q ≡ s) ⊎ (q ≢ s)
+        → log_at q (logs_for own (s ∷ ss)) ≡ log_of_new own (s ∷ ss) q
+    by later (inl t) (inl is) =
+        let own_too = ap (λ x. bytes_eq x own) is ∙ t in
+        first_log own s ss q true t ∙ later ∙ own_has_none own ss q own_too ∙ sym (own_has_none own (s ∷ ss) q own_too)
+    by later (inl t) (inr apart) = first_log own s ss q true t ∙ later ∙ not_first own s ss q apart
+    by later (inr f) (inl is) =
+        ap (λ x. log_at x (logs_for own (s ∷ ss))) is
+        ∙ first_log own s ss s false f ∙ ap (λ b. cond b (Some (empty_log s)) (log_at s (logs_for own ss))) (eq_true s)
+        ∙ sym (first_is own s ss f) ∙ ap (log_of_new own (s ∷ ss)) (sym is)
+    by later (inr f) (inr apart) =
+        first_log own s ss q false f ∙ ap (λ b. cond b (Some (empty_log s)) (log_at q (logs_for own ss))) (eq_false s q (λ e. apart (sym e)))
+        ∙ later ∙ not_first own s ss q apart
 
 -- ---- the verdicts
 

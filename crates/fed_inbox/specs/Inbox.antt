@@ -1,7 +1,6 @@
 -- The state of an inbox: the server's name, the rooms that it knows, and a log for each server that it takes from.
-use Rattle.std.specs.Prelude.{ℕ, List, [], ◌∷◌, ◌++◌, ◌&&◌, refl, find, Option, Some, None, Bool, not, if◌then◌else◌}
+use Rattle.std.specs.Prelude.{ℕ, List, [], ◌∷◌, refl, map, filter, find, Option, Some, None, Bool, not, if◌then◌else◌}
 use Rattle.std.specs.Str.{bytes_eq}
-use Rattle.std.specs.List.{list_any}
 use Rattle.std.specs.FinMap as finite
 use Rattle.std.specs.Coded.{Coded, code_by, coded×, coded_ℕ, coded_list}
 use Rattle.fed_event.specs.Checked.{CheckedEvent, checked_code}
@@ -45,21 +44,13 @@ abbrev pub with_log : List ℕ → List LogState → LogState → List LogState
 with_log origin [] log = []
 with_log origin (l ∷ logs) log = if is_of origin l then log ∷ logs else l ∷ with_log origin logs log
 
--- another server than `own`, that has no log yet
-abbrev pub is_new : List LogState → List ℕ → List ℕ → Bool
-is_new logs own server = not (bytes_eq server own) && not (list_any (is_of server) logs)
-
--- with an empty log for one more server, where it is new
-abbrev pub with_server : List ℕ → List LogState → List ℕ → List LogState
-with_server own logs server = if is_new logs own server then logs ++ empty_log server ∷ [] else logs
-
-abbrev pub with_servers : List ℕ → List LogState → List (List ℕ) → List LogState
-with_servers own logs [] = logs
-with_servers own logs (server ∷ servers) = with_servers own (with_server own logs server) servers
+-- an empty log for each of these servers but `own`
+abbrev pub logs_for : List ℕ → List (List ℕ) → List LogState
+logs_for own servers = map empty_log (filter (λ server. not (bytes_eq server own)) servers)
 
 -- an inbox that nothing came to
 abbrev pub new_inbox : List ℕ → List (List ℕ) → List (List ℕ) → InboxState
-new_inbox own servers rooms = record { own = own; rooms = room_set rooms; logs = with_servers own [] servers }
+new_inbox own servers rooms = record { own = own; rooms = room_set rooms; logs = logs_for own servers }
 
 abbrev pub new_held : List ℕ → List (List ℕ) → List (List ℕ) → Held
 new_held own servers rooms = record { state = new_inbox own servers rooms; fresh = [] }

@@ -1,7 +1,6 @@
 -- The state that the fields of an `Inbox` stand for.
-use Rattle.std.specs.Prelude.{string_bytes}
 use Rattle.fed_inbox.specs.declared.inbox.Inbox.TheInside.{Inside}
 use Rattle.fed_inbox.specs.Inbox.{InboxState}
 
 abbrev pub state_of : Inside → InboxState
-state_of i = record { own = string_bytes i.own; rooms = i.rooms; logs = i.logs.items }
+state_of i = record { own = i.own; rooms = i.rooms; logs = i.logs.items }

@@ -1,5 +1,8 @@
 -- What was taken from one origin, in order, and the reply kept for each of its transactions, by number.
-use Rattle.std.specs.Prelude.{ℕ, List, refl}
+use Rattle.std.specs.Prelude.{ℕ, List, map, refl}
+use Rattle.std.specs.Ordering.{nat_cmp}
+use Rattle.std.specs.Cmp.Lexicographic.{slice_cmp}
+use Rattle.std.specs.List.Sorted.{IsStrictlySortedBy}
 use Rattle.std.specs.Coded.{Coded, code_by, coded×, coded_ℕ, coded_list}
 use Rattle.fed_json.specs.TextMap.{TextMap, text_map_code}
 
@@ -19,3 +22,10 @@ log_code =
     (λ l. (l.origin, (l.replies, (l.pdus, l.edus))))
     (λ p. record { origin = p.0; replies = p.1.0; pdus = p.1.1.0; edus = p.1.1.1 })
     (λ _. refl)
+
+abbrev pub origin_of : LogState → List ℕ
+origin_of log = log.origin
+
+-- in the order of the bytes of their origins, one for each
+abbrev pub AreByOrigin : List LogState → Type 0
+AreByOrigin logs = IsStrictlySortedBy (slice_cmp nat_cmp) (map origin_of logs)

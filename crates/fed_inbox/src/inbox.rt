@@ -1,18 +1,19 @@
 // The inbox of a server.
 ghost use Rattle.std.specs.Prelude.{◌≡◌, ◌<◌, [], None, Err, map, length, position, string_bytes, IfOk, IfSome, IsSome};
-ghost use Rattle.std.specs.List.{list_any};
 ghost use Rattle.fed_event.specs.Names.{is_one_of};
 ghost use Rattle.fed_inbox.specs.Taken.{taken_left};
 ghost use Rattle.fed_inbox.specs.Reply.{refused};
-ghost use Rattle.fed_inbox.specs.Inbox.{new_held, with_servers, is_of, is_new, log_at, taken_of, taken_edus_of};
+ghost use Rattle.fed_inbox.specs.Inbox.{new_held, logs_for, is_of, log_at, taken_of, taken_edus_of};
 ghost use Rattle.fed_inbox.specs.Answer.{IsAnswered, request_of};
 ghost use Rattle.fed_inbox.specs.AnswerParts.{IsTried};
+ghost use Rattle.fed_inbox.specs.Log.{AreByOrigin};
 
 use crate::log::{Accepted, Log};
 use crate::refusal::Refusal;
 use crate::reply::Reply;
 use crate::rooms::Rooms;
 use crate::taken::Taken;
+use fed_dest::{List, ServerName};
 use fed_event::{Checked, Keys};
 use fed_json::NoMemory;
 use fed_txn::{MAX_BODY, read_body};
@@ -24,7 +25,7 @@ use std::marker::Model;
 /// Contracts see it as its state, and beside it the events that the newest answer took for the rooms and that are not handed out.
 #[derive(Drop)]
 pub struct Inbox {
-    own: String,
+    own: ServerName,
     rooms: Rooms,
     logs: Vec<Log>,
     fresh: Vec<Checked>,
@@ -39,18 +40,21 @@ impl Model for Inbox {
     ghost coded = { held_code };
 
     ghost view = { λ i. record { state = state_of i; fresh = i.fresh.items } };
+
+    ghost use Rattle.fed_inbox.specs.Log.{AreByOrigin};
+
+    ghost invariant = { λ i. AreByOrigin i.logs.items };
 }
 
 impl Inbox {
     /// An empty inbox of the server `own`, which takes from the other servers of the list, and knows these rooms.
     pub fn new(
         alloc: Global,
-        own: String,
-        servers: Vec<String>,
+        own: ServerName,
+        servers: List,
         rooms: Vec<String>,
     ) -> Result<Inbox, NoMemory>
-        ensures { IfOk result (λ inbox. inbox ≡ new_held (string_bytes own)
-            (map string_bytes servers.items) (map string_bytes rooms.items)) }
+        ensures { IfOk result (λ inbox. inbox ≡ new_held own servers (map string_bytes rooms.items)) }
     {
         let logs = logs_of(alloc, &own, servers)?;
         let rooms = Rooms::new(alloc, rooms)?;
@@ -175,33 +179,22 @@ impl Inbox {
         ensures place { result ≡ position (is_of origin.now) self.now.state.logs }
         ensures within { IfSome result (λ place. place < length self.now.state.logs) }
     {
-        self.logs.iter().position(|log| log.origin() == origin)
+        self.logs
+            .binary_search_by(|log| log.origin().cmp(origin))
+            .ok()
     }
 }
 
-// A log for each of the servers but `own`.
-fn logs_of(alloc: Global, own: &str, servers: Vec<String>) -> Result<Vec<Log>, NoMemory>
-    ensures { IfOk result (λ logs. logs.items
-        ≡ with_servers own.now [] (map string_bytes servers.items)) }
+// An empty log for each of the servers but `own`, in their order.
+fn logs_of(alloc: Global, own: &ServerName, servers: List) -> Result<Vec<Log>, NoMemory>
+    ensures logs { IfOk result (λ logs. logs.items ≡ logs_for own.now servers) }
+    ensures order { IfOk result (λ logs. AreByOrigin logs.items) }
 {
     let mut logs: Vec<Log> = Vec::new(alloc);
-    for server in servers {
-        if is_new(&logs, own, &server) {
+    for server in servers.into_names() {
+        if server.as_str() != own.as_str() {
             logs.push(Log::new(alloc, server))?;
         }
     }
     Ok(logs)
-}
-
-// Whether a server is another one than `own`, and has no log yet.
-fn is_new(logs: &[Log], own: &str, server: &str) -> bool
-    ensures { result ≡ is_new logs.now own.now server.now }
-{
-    server != own && !has_log(logs, server)
-}
-
-fn has_log(logs: &[Log], server: &str) -> bool
-    ensures { result ≡ list_any (is_of server.now) logs.now }
-{
-    logs.iter().any(|log| log.origin() == server)
 }

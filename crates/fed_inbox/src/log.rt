@@ -1,5 +1,5 @@
 // What was taken from one origin.
-ghost use Rattle.std.specs.Prelude.{◌≡◌, Ok, string_bytes, option_map, OnOk, OnErr, IfOk};
+ghost use Rattle.std.specs.Prelude.{◌≡◌, Ok, option_map, OnOk, OnErr, IfOk};
 ghost use Rattle.std.specs.FinMap as finite;
 ghost use Rattle.fed_inbox.specs.Taken.{taken_left};
 ghost use Rattle.fed_inbox.specs.Inbox.{empty_log};
@@ -13,6 +13,7 @@ use crate::refusal::Refusal;
 use crate::rooms::Rooms;
 use crate::taken::Taken;
 use crate::text_list::TextList;
+use fed_dest::ServerName;
 use fed_event::{Checked, Keys};
 use fed_json::{Json, NoMemory};
 use fed_txn::TransactionIn;
@@ -30,7 +31,7 @@ pub(crate) struct Accepted {
 /// What was taken from one origin, in order, and the reply kept for each of its transactions.
 #[derive(Drop)]
 pub(crate) struct Log {
-    origin: String,
+    origin: ServerName,
     replies: BTreeMap<String, Vec<u8>>,
     pdus: Vec<TextList>,
     edus: Vec<TextList>,
@@ -53,8 +54,8 @@ impl Model for Log {
 }
 
 impl Log {
-    pub(crate) fn new(alloc: Global, origin: String) -> Log
-        ensures { result ≡ empty_log (string_bytes origin) }
+    pub(crate) fn new(alloc: Global, origin: ServerName) -> Log
+        ensures { result ≡ empty_log origin }
     {
         Log {
             origin,
@@ -98,7 +99,8 @@ impl Log {
         rooms: &Rooms,
         keys: &K,
     ) -> Result<Accepted, Refusal>
-        ensures { IsStep (K.checks keys.now) rooms.now self.old txn.now (Ok body) result self.new }
+        ensures step { IsStep (K.checks keys.now) rooms.now self.old txn.now (Ok body) result self.new }
+        ensures origin { self.new.origin ≡ self.old.origin }
     {
         if names_other_origin(&body, self.origin()) {
             return Err(Refusal::OriginDiffers);
@@ -121,7 +123,8 @@ impl Log {
         rooms: &Rooms,
         keys: &K,
     ) -> Result<Accepted, Refusal>
-        ensures { IsNewStep (K.checks keys.now) rooms.now self.old txn.now (transaction_of body) result self.new }
+        ensures step { IsNewStep (K.checks keys.now) rooms.now self.old txn.now (transaction_of body) result self.new }
+        ensures origin { self.new.origin ≡ self.old.origin }
     {
         let transaction = TransactionIn::of_json(alloc, body)?;
         let outcome = Outcome::of(alloc, transaction, rooms, keys)?;

@@ -15,10 +15,10 @@ none_kept own servers origin txn =
     [ true ↦ finite.get-empty (slice_cmp nat_cmp) txn | false ↦ refl ]
 
 pub returns-clause-logs : goal.returns-clause-logs
-returns-clause-logs c own servers rooms server = logs_listed own [] servers server
+returns-clause-logs c own servers rooms server = logs_listed own servers server
 
 pub returns-clause-rooms : goal.returns-clause-rooms
 returns-clause-rooms c own servers rooms room = rooms_known [] rooms room
 
 pub returns-clause-replies : goal.returns-clause-replies
-returns-clause-replies c own servers rooms origin txn = ap (λ o. reply_by o txn) (logs_listed own [] servers origin) ∙ none_kept own servers origin txn
+returns-clause-replies c own servers rooms origin txn = ap (λ o. reply_by o txn) (logs_listed own servers origin) ∙ none_kept own servers origin txn

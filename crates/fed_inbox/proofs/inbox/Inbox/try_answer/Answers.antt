@@ -1,10 +1,11 @@
-use Rattle.std.proofs.Common.{◌≡◌, ◌<◌, None, Some, Ok, IsSome, length, sym, subst, set, string_bytes}
+use Rattle.std.proofs.Common.{◌≡◌, ◌<◌, None, Some, Ok, IsSome, length, sym, subst, set}
 use Rattle.std.specs.List.{position}
 use Rattle.fed_txn.specs.Reading.{body_of}
 use Rattle.fed_inbox.specs.Log.{LogState}
 use Rattle.fed_inbox.specs.Inbox.{InboxState, Held, is_of}
 use Rattle.fed_inbox.specs.Answer.{request_of, step_body, IsAnswered, Steps}
 use Rattle.fed_inbox.specs.AnswerParts.{answer_with, fresh_with}
+use Rattle.fed_inbox.proofs.Origins.{still_by_origin}
 use Rattle.fed_inbox.proofs.Places.{log_missing}
 use Rattle.fed_inbox.proofs.Steps.{answered_at, answered_nobody, body_refused, refused_at, not_there}
 use Rattle.fed_inbox.proofs.inbox.Inbox.try_answer.Goals as goal
@@ -40,11 +41,14 @@ returns-clause-tried g c =
     let inside = c.self.inside in
     let r = c.answer.result in
     let old = c.index_mut.result.now in
-    let new : InboxState = record { own = string_bytes inside.own; rooms = inside.rooms; logs = set inside.logs.items c.in-Some.place c.answer.new.self } in
+    let new : InboxState = record { own = inside.own; rooms = inside.rooms; logs = set inside.logs.items c.in-Some.place c.answer.new.self } in
     let read : body_of c.args.body.now ≡ Ok c.in_ok-body.body = c.in_ok-body.ensures.ok in
-    let stepped = subst (λ b. Steps old (step_body checks inside.rooms old c.args.txn.now b) (answer_with r) c.answer.new.self (fresh_with r)) (sym read) c.answer.ensures in
+    let stepped = subst (λ b. Steps old (step_body checks inside.rooms old c.args.txn.now b) (answer_with r) c.answer.new.self (fresh_with r)) (sym read) c.answer.ensures.step in
     subst (λ (h : Held). IsAnswered checks h.state request (answer_with r) new (fresh_with r)) c.self.view_is
     (answered_at checks _ request c.in-Some.place old (answer_with r) c.answer.new.self (fresh_with r) place within c.index_mut.ensures.value stepped)
 
 pub returns-clause-unlisted : goal.returns-clause-unlisted
 returns-clause-unlisted g c none = absurd (not_there c.args.origin.now c.args.self.now.state.logs c.in-Some.place c.in-Some.ensures.place c.in-Some.ensures.within none)
+
+pub invariant_of-self : goal.invariant_of-self
+invariant_of-self g c = still_by_origin c.self.inside.logs.items c.in-Some.place c.index_mut.result.now c.answer.new.self c.index_mut.ensures.value c.answer.ensures.origin c.self.invariant
