@@ -1,1 +1,2 @@
 pub mod ServerSet
+pub mod ServerName
