@@ -1,5 +1,5 @@
 -- The parts of a server name, and where its text is cut.
-use Rattle.std.proofs.Common.{arith, zero, suc, ◌==◌, Decides, ◌≡◌, ◌≢◌, ◌⊎◌, ℕ, ◌+◌, ◌<◌, ◌≤◌, List, [], ◌∷◌, ◌++◌, ◌&&◌, Bool, true, false, nat_le, length, slice_index_or, refl, sym, ap, subst, ◌∙◌, inl, inr, append_assoc}
+use Rattle.std.proofs.Common.{arith, suc, ◌==◌, Decides, ◌≡◌, ◌≢◌, ◌⊎◌, ℕ, ◌<◌, ◌≤◌, List, [], ◌∷◌, ◌++◌, ◌&&◌, Bool, true, false, length, slice_index_or, refl, sym, ap, subst, ◌∙◌, inl, inr, append_assoc}
 use Rattle.std.proofs.Math.Bool.{Bool-set}
 use Rattle.std.proofs.Math.Logic.{∥∥₁_elim}
 use Rattle.std.specs.List.{list_all}
@@ -7,7 +7,7 @@ use Rattle.std.proofs.lemmas.Bool.{false≢true}
 use Rattle.std.proofs.lemmas.Bool.Decides.{nat_tests}
 use Rattle.std.proofs.lemmas.List.{append-nil}
 use Rattle.std.proofs.lemmas.List.Folds.{list_all_at}
-use Rattle.fed_dest.specs.ServerName.{is_text_of, is_dns_char, is_ipv6_char, is_dns_name, is_ipv6_address, is_port, IsHost, IsInBrackets, IsHostAndPort, IsServerName, IsPortOrNothing}
+use Rattle.fed_dest.specs.ServerName.{is_text_of, is_dns_char, is_ipv6_char, is_dns_name, is_ipv6_address, is_port, IsHost, IsHostAndPort, IsServerName, IsPortOrNothing}
 
 -- ---- texts of some characters
 

@@ -1,5 +1,8 @@
 // Names of servers.
-ghost use Rattle.std.specs.Prelude.{◌≡◌, Err, IfOk, OnOk, IsErrOf, Decides, string_bytes};
+ghost use Rattle.std.specs.Prelude.{◌≡◌, Some, Err, IfOk, OnOk, IsErrOf, Decides, string_bytes, bytes_eq, refl};
+ghost use Rattle.std.specs.Cmp.{partial_equiv_from_equiv};
+ghost use Rattle.std.specs.Cmp.Lexicographic.{slice_cmp, nat_list_eq_equiv, nat_list_cmp_total, texts_po, texts_ties};
+ghost use Rattle.std.specs.Ordering.{nat_cmp};
 ghost use Rattle.std.specs.List.{list_all};
 ghost use Rattle.std.specs.Char.{is_ascii_digit};
 ghost use Rattle.fed_dest.specs.ServerName.{IsServerName, IsPortOrNothing, is_dns_char, is_ipv6_char, is_dns_name, is_ipv6_address, is_port};
@@ -7,6 +10,8 @@ ghost use Rattle.fed_dest.specs.declared.server_name.NameFault.TheVariants.{Memo
 
 use fed_json::NoMemory;
 use std::alloc::Global;
+use std::cmp::Ordering;
+use std::fmt;
 use std::marker::Model;
 use thiserror::Error;
 
@@ -23,7 +28,7 @@ const MAX_IPV6: usize = 45;
 
 /// The name of a server (appendix "Server Name"), as a text: a host and, where there is one, a colon and a port.
 ///
-/// Contracts see it as its bytes.
+/// Names are ordered as their bytes. Contracts see them as these.
 #[derive(Drop)]
 pub struct ServerName {
     text: String,
@@ -85,6 +90,58 @@ impl ServerName {
     {
         let ServerName { text } = self;
         text
+    }
+}
+
+impl PartialEq for ServerName {
+    ghost eq = { bytes_eq };
+
+    ghost laws = { partial_equiv_from_equiv nat_list_eq_equiv };
+
+    fn eq(&self, other: &ServerName) -> bool {
+        self.as_str() == other.as_str()
+    }
+}
+
+impl Eq for ServerName {
+    ghost laws = { nat_list_eq_equiv };
+}
+
+impl PartialOrd for ServerName {
+    ghost partial_cmp = { λ x y. Some (slice_cmp nat_cmp x y) };
+
+    ghost laws = { texts_po };
+
+    fn partial_cmp(&self, other: &ServerName) -> Option<Ordering> {
+        Some(self.cmp(other))
+    }
+}
+
+impl Ord for ServerName {
+    ghost cmp = { slice_cmp nat_cmp };
+
+    ghost total = { nat_list_cmp_total };
+
+    ghost matches_partial_cmp = { λ x y. refl };
+
+    ghost matches_eq = { texts_ties };
+
+    fn cmp(&self, other: &ServerName) -> Ordering {
+        self.as_str().cmp(other.as_str())
+    }
+}
+
+impl fmt::Display for ServerName {
+    ghost output = { λ name. Some name };
+
+    fn fmt<W: fmt::Write>(&self, f: &mut fmt::Formatter<W>) -> fmt::Result {
+        f.write_str(self.as_str())
+    }
+}
+
+impl fmt::Debug for ServerName {
+    fn fmt<W: fmt::Write>(&self, f: &mut fmt::Formatter<W>) -> fmt::Result {
+        fmt::Debug::fmt(self.as_str(), f)
     }
 }
 

@@ -1,4 +1,4 @@
-use Rattle.std.proofs.Common.{arith, ◌≡◌, ◌∷◌, ◌&&◌, Some, None, refl, Bool, false, true, sym, ap, subst, ◌∙◌}
+use Rattle.std.proofs.Common.{arith, ◌≡◌, ◌∷◌, ◌&&◌, Some, None, refl, Bool, false, true, sym, ap, ◌∙◌}
 use Rattle.std.proofs.lemmas.Bool.{false≢true}
 use Rattle.std.proofs.lemmas.Str.Pattern.{strip_prefix_char, split_parts}
 use Rattle.fed_dest.specs.ServerName.{is_dns_name, is_ipv6_address, is_port}

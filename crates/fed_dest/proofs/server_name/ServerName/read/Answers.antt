@@ -1,4 +1,4 @@
-use Rattle.std.proofs.Common.{sym, ◌∙◌, subst}
+use Rattle.std.proofs.Common.{sym, subst}
 use Rattle.fed_dest.specs.ServerName.{IsServerName}
 use Rattle.fed_dest.proofs.server_name.ServerName.read.Goals as goal
 
