@@ -1,0 +1,4 @@
+mod Names
+pub mod Halving
+mod Lists
+mod Joinings
