@@ -6,9 +6,12 @@
 #![tactic(auto)]
 
 mod entry;
+mod fault;
+mod lane;
 mod parcel;
 mod place;
 
 pub use entry::{Cause, Entry};
+pub use fault::JournalFault;
 pub use parcel::{Load, Parcel};
 pub use place::{MAX_ENTRIES, Place};
