@@ -24,7 +24,7 @@ set_there (x ∷ xs) zero (suc d) y ne = refl
 set_there (x ∷ xs) (suc i) zero y ne = refl
 set_there (x ∷ xs) (suc i) (suc d) y ne = set_there xs i d y (λ e. ne (ap suc e))
 
-abbrev chosen_change : (LaneState → LaneState) → Bool → LaneState → LaneState
+abbrev pub chosen_change : (LaneState → LaneState) → Bool → LaneState → LaneState
 chosen_change f b = if b then f else (λ lane. lane)
 
 module _ (f : LaneState → LaneState) where
@@ -98,3 +98,8 @@ module _ (f : LaneState → LaneState) (dests : List ℕ) (old xs : List LaneSta
       one_more_changed f (is_among (take i dests)) (is_among (take (i + 1) dests)) old xs place x y are here gives (not_yet_among dests i place rising within listed)
       (now_among dests i place within ∙ ap (λ b. is_among (take i dests) place || b) (eq-eqb _ _ (sym listed)) ∙ or_true (is_among (take i dests) place))
       (λ d ne. now_among dests i d within ∙ ap (λ b. is_among (take i dests) d || b) (ne_eqb _ _ (λ e. ne (sym e ∙ sym listed))) ∙ or_false (is_among (take i dests) d))
+
+-- one lane alone is changed
+pub changed_at : (f : LaneState → LaneState) (old : List LaneState) (place dest : ℕ) (x y : LaneState) → place ≡ dest → slice_get old place ≡ Some x → y ≡ f x → AreChanged (λ d. dest == d) f old (set old place y)
+changed_at f old place dest x y same here gives =
+    one_more_changed f (λ _. false) (λ d. dest == d) old old place x y (none_changed f (λ _. false) old (λ _. refl)) here gives refl (eq-eqb _ _ (sym same)) (λ d ne. ne_eqb _ _ (λ e. ne (sym e ∙ sym same)))
