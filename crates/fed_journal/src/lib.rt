@@ -3,6 +3,11 @@
 //! - `place`: `Place`, where a parcel stands among those for its destination
 //! - `parcel`: `Parcel` and `Load`, what is sent on to one destination
 //! - `entry`: `Entry` and `Cause`, what a journal holds
+//! - `journal`: `Journal`, the entries in order, what is addressed to each destination, and where its next parcel stands
+//! - `left`: `Addressed`, `AddressedEdus` and `Events`, which go over the events and the EDUs of a journal
+//! - `lane`: what a journal keeps for each destination
+//! - `fault`: `JournalFault`, why a journal has no room for more entries
+//! - `laws`: what holds of all journals
 #![tactic(auto)]
 
 mod entry;
