@@ -1,13 +1,11 @@
 -- What is addressed to a destination, and placed for it, as entries follow entries.
-use Rattle.std.proofs.Common.{rules, arith, ◌≡◌, ℕ, zero, suc, ◌+◌, ◌≤◌, ◌==◌, Bool, true, false, not, ◌||◌, cond, if◌then◌else◌, List, [], ◌∷◌, ◌++◌, length, Option, Some, None, refl, sym, ap, ◌∙◌, length-append}
-use Rattle.std.specs.List.{slice_get, list_any, filter_map, cons_option}
+use Rattle.std.proofs.Common.{arith, ◌≡◌, ℕ, zero, suc, ◌+◌, ◌≤◌, ◌==◌, Bool, true, false, not, ◌||◌, cond, if◌then◌else◌, List, [], ◌∷◌, ◌++◌, length, Option, Some, None, refl, sym, ap, ◌∙◌, length-append}
+use Rattle.std.specs.List.{slice_get, filter_map, cons_option}
 use Rattle.std.specs.Option.{option_map}
-use Rattle.std.proofs.lemmas.List.{append_assoc, append-nil}
+use Rattle.std.proofs.lemmas.List.{append-nil}
 use Rattle.std.proofs.lemmas.List.Sums.{take_while-cons}
 use Rattle.std.proofs.lemmas.List.Elements.{filter_map-append}
 use Rattle.std.proofs.lemmas.List.Folds.{list_any-append}
-use Rattle.serde_json.specs.Data.{Data}
-use Rattle.fed_event.specs.Checked.{CheckedEvent}
 use Rattle.fed_dest.specs.ServerSet.{is_among}
 use Rattle.fed_journal.specs.declared.entry.Cause.{Cause}
 use Rattle.fed_journal.specs.declared.entry.Cause.TheVariants.{Asked, Lost}
@@ -15,7 +13,6 @@ use Rattle.fed_journal.specs.declared.entry.Entry.{Entry}
 use Rattle.fed_journal.specs.declared.entry.Entry.TheVariants.{Event, Edu, Close}
 use Rattle.fed_journal.specs.declared.parcel.Load.{Load}
 use Rattle.fed_journal.specs.declared.parcel.Load.TheVariants as load
-use Rattle.fed_journal.specs.declared.parcel.Parcel.{Parcel}
 use Rattle.fed_journal.specs.Place.{PlaceValue}
 use Rattle.fed_journal.specs.Journal.{closes, is_closed, before_close, through_close, event_for, edu_for, load_for, end_of, event_in, edu_in, events_of, edus_of, addressed, addressed_edus, loads, placed, next_place, numbered, parcels}
 use Rattle.fed_journal.specs.Loads.{event_in_load, edu_in_load}

@@ -1,6 +1,6 @@
 -- How the lanes of a journal follow its entries.
-use Rattle.std.proofs.Common.{rules, arith, ◌≡◌, ℕ, zero, suc, ◌+◌, ◌-◌, ◌<◌, ◌≤◌, ◌^◌, ◌==◌, max, Bool, true, false, not, ◌||◌, if◌then◌else◌, List, [], ◌∷◌, ◌++◌, length, Option, Some, None, is_some, nat_lt, take, vec_len, vec_capacity, get_or, refl, sym, ap, ◌∙◌, subst, length-append}
-use Rattle.std.specs.List.{slice_get, list_any, filter_map, prefix_len, cons_option}
+use Rattle.std.proofs.Common.{arith, ◌≡◌, ℕ, zero, suc, ◌+◌, ◌-◌, ◌<◌, ◌≤◌, ◌^◌, ◌==◌, Bool, true, false, not, ◌||◌, if◌then◌else◌, List, [], ◌∷◌, ◌++◌, length, Option, Some, None, is_some, nat_lt, take, vec_len, vec_capacity, get_or, refl, sym, ap, ◌∙◌, subst, length-append}
+use Rattle.std.specs.List.{slice_get, filter_map, prefix_len, cons_option}
 use Rattle.std.specs.Option.{option_map}
 use Rattle.std.proofs.lemmas.List.{append-nil, length_push}
 use Rattle.std.proofs.lemmas.List.Elements.{filter_map-append}

@@ -1,9 +1,7 @@
 -- What the iterators over a journal have left.
-use Rattle.std.specs.Prelude.{ℕ, List, Option, Some, None, slice_get}
-use Rattle.std.specs.List.{filter_map}
+use Rattle.std.specs.Prelude.{List}
 use Rattle.serde_json.specs.Data.{Data}
 use Rattle.fed_event.specs.Checked.{CheckedEvent}
-use Rattle.fed_journal.specs.declared.entry.Entry.{Entry}
 use Rattle.fed_journal.specs.declared.left.Addressed.{Addressed}
 use Rattle.fed_journal.specs.declared.left.AddressedEdus.{AddressedEdus}
 use Rattle.fed_journal.specs.declared.left.Events.{Events}

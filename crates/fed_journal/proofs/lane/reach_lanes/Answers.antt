@@ -1,5 +1,5 @@
-use Rattle.std.proofs.Common.{◌≡◌, ◌<◌, ℕ, Some, length, get_or, slice_get, arith}
-use Rattle.fed_journal.specs.Lane.{LaneState, reached}
+use Rattle.std.proofs.Common.{arith}
+use Rattle.fed_journal.specs.Lane.{reached}
 use Rattle.fed_journal.proofs.Lanes.{not_yet_changed, next_changed}
 use Rattle.fed_journal.proofs.lane.reach_lanes.Goals as goal
 

@@ -1,5 +1,5 @@
 use Rattle.std.proofs.Common.{[], ◌∷◌, ◌++◌, ◌+◌, ◌||◌, length, if◌then◌else◌, ap, ◌∙◌}
-use Rattle.fed_journal.specs.Journal.{closes, is_closed, addressed, addressed_edus, loads, placed}
+use Rattle.fed_journal.specs.Journal.{is_closed, addressed, addressed_edus, loads, placed}
 use Rattle.fed_journal.proofs.Entries.{is_closed-more, addressed-more, addressed_edus-more, loads-more, placed-more, is_closed-one, addressed-one, addressed_edus-one, loads-one}
 use Rattle.fed_journal.proofs.laws.what_one_more_entry_adds.Goals as goal
 

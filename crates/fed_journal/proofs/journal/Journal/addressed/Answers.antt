@@ -1,6 +1,6 @@
 use Rattle.std.proofs.Common.{ap, ◌∙◌}
-use Rattle.fed_journal.specs.Journal.{JournalState, event_in, addressed, before_close}
-use Rattle.fed_journal.specs.Standing.{what_stands, places_from}
+use Rattle.fed_journal.specs.Journal.{JournalState, event_in, addressed}
+use Rattle.fed_journal.specs.Standing.{what_stands}
 use Rattle.fed_journal.proofs.Journals.{lane_read, addressed_stand}
 use Rattle.fed_journal.proofs.journal.Journal.addressed.Goals as goal
 

@@ -1,6 +1,6 @@
 use Rattle.std.proofs.Common.{ap, ◌∙◌}
-use Rattle.fed_journal.specs.Journal.{JournalState, edu_in, addressed_edus, before_close}
-use Rattle.fed_journal.specs.Standing.{what_stands, places_from}
+use Rattle.fed_journal.specs.Journal.{JournalState, edu_in, addressed_edus}
+use Rattle.fed_journal.specs.Standing.{what_stands}
 use Rattle.fed_journal.proofs.Journals.{lane_read, edus_stand}
 use Rattle.fed_journal.proofs.journal.Journal.addressed_edus.Goals as goal
 

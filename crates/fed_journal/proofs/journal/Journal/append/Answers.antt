@@ -1,10 +1,10 @@
-use Rattle.std.proofs.Common.{◌≡◌, ◌<◌, ◌+◌, ◌-◌, ◌∷◌, ◌++◌, [], ℕ, List, length, vec_len, is_ok, if◌then◌else◌, sym, ap, ◌∙◌, subst, arith, refl}
+use Rattle.std.proofs.Common.{◌≡◌, ◌<◌, ◌+◌, ◌-◌, ◌∷◌, ◌++◌, [], length, vec_len, is_ok, if◌then◌else◌, sym, ap, ◌∙◌, subst, arith, refl}
 use Rattle.std.proofs.lemmas.List.{with_items_is}
 use Rattle.fed_journal.specs.declared.entry.Entry.{Entry}
 use Rattle.fed_journal.specs.declared.entry.Entry.TheVariants.{Event}
 use Rattle.fed_journal.specs.Journal.{JournalState}
-use Rattle.fed_journal.specs.Lane.{LaneState, HasRoom}
-use Rattle.fed_journal.specs.JournalParts.{AreLanes, IsJournal}
+use Rattle.fed_journal.specs.Lane.{HasRoom}
+use Rattle.fed_journal.specs.JournalParts.{AreLanes}
 use Rattle.fed_journal.proofs.Entries.{events_within}
 use Rattle.fed_journal.proofs.Journals.{lanes_have_room, lanes_follow_event, one_entry_more}
 use Rattle.fed_journal.proofs.journal.Journal.append.Goals as goal

@@ -1,10 +1,10 @@
-use Rattle.std.proofs.Common.{◌≡◌, ◌<◌, ◌+◌, ◌-◌, ◌∷◌, ◌++◌, [], ℕ, List, Some, false, not, length, vec_len, is_ok, if◌then◌else◌, sym, ap, ◌∙◌, subst, arith, refl, get_or, slice_get}
+use Rattle.std.proofs.Common.{◌≡◌, ◌<◌, ◌+◌, ◌-◌, ◌∷◌, ◌++◌, [], List, false, not, vec_len, is_ok, if◌then◌else◌, sym, ap, ◌∙◌, subst, arith, refl}
 use Rattle.std.proofs.lemmas.List.{length-set}
 use Rattle.std.proofs.lemmas.Option.{slice_get_read}
 use Rattle.fed_journal.specs.declared.entry.Entry.{Entry}
 use Rattle.fed_journal.specs.declared.entry.Entry.TheVariants.{Close}
 use Rattle.fed_journal.specs.Journal.{JournalState, is_closed, with_entry}
-use Rattle.fed_journal.specs.Lane.{LaneState, closed_by}
+use Rattle.fed_journal.specs.Lane.{closed_by}
 use Rattle.fed_journal.proofs.Lanes.{changed_at}
 use Rattle.fed_journal.proofs.Journals.{lane_read, lanes_have_room, lanes_follow_close, one_entry_more}
 use Rattle.fed_journal.proofs.journal.Journal.close.Goals as goal

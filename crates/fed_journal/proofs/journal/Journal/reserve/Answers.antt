@@ -1,4 +1,4 @@
-use Rattle.std.proofs.Common.{◌≡◌, ◌<◌, ◌≤◌, ◌+◌, ◌^◌, ℕ, List, length, true, vec_len, vec_capacity, sym, ap, ◌∙◌, subst, arith, refl}
+use Rattle.std.proofs.Common.{◌≡◌, List, length, true, sym, ap, ◌∙◌, subst, arith, refl}
 use Rattle.std.proofs.lemmas.List.{with_items_is}
 use Rattle.fed_journal.specs.Lane.{LaneState, AreChanged, ArePartlyChanged, with_room}
 use Rattle.fed_journal.specs.JournalParts.{AreLanes}
