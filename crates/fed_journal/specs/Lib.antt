@@ -1,3 +1,9 @@
 pub mod Place
 pub mod Entry
 pub mod Journal
+pub mod Loads
+pub mod Standing
+pub mod Left
+pub mod Lane
+pub mod LaneParts
+pub mod JournalParts

@@ -1,0 +1,51 @@
+// What holds of all journals.
+ghost use Rattle.std.specs.Prelude.{◌≡◌, ◌≤◌, ◌+◌, ◌||◌, ℕ, List, [], ◌∷◌, ◌++◌, length, Some, None, true, slice_get, if◌then◌else◌};
+ghost use Rattle.std.specs.List.{filter_map};
+ghost use Rattle.std.specs.Option.{option_map};
+ghost use Rattle.fed_journal.specs.declared.entry.Entry.{Entry};
+ghost use Rattle.fed_journal.specs.Place.{PlaceValue};
+ghost use Rattle.fed_journal.specs.Journal.{closes, is_closed, event_for, edu_for, load_for, addressed, addressed_edus, loads, placed, next_place, parcels};
+ghost use Rattle.fed_journal.specs.Loads.{event_in_load, edu_in_load};
+
+/// One more entry adds, at the end of what is addressed to a destination and placed for it, what it gives that destination; where the
+/// outbox is closed it adds nothing.
+pub fn what_one_more_entry_adds()
+    ensures closed { (entries : List Entry) (entry : Entry) (d : ℕ)
+        → is_closed (entries ++ entry ∷ []) d ≡ (is_closed entries d || closes d entry) }
+    ensures addressed { (entries : List Entry) (entry : Entry) (d : ℕ) → addressed (entries ++ entry ∷ []) d
+        ≡ (if is_closed entries d then addressed entries d else addressed entries d ++ filter_map (event_for d) (entry ∷ [])) }
+    ensures edus { (entries : List Entry) (entry : Entry) (d : ℕ) → addressed_edus (entries ++ entry ∷ []) d
+        ≡ (if is_closed entries d then addressed_edus entries d else addressed_edus entries d ++ filter_map (edu_for d) (entry ∷ [])) }
+    ensures loads { (entries : List Entry) (entry : Entry) (d : ℕ) → loads (entries ++ entry ∷ []) d
+        ≡ (if is_closed entries d then loads entries d else loads entries d ++ filter_map (load_for d) (entry ∷ [])) }
+    ensures placed { (entries : List Entry) (entry : Entry) (d : ℕ) → placed (entries ++ entry ∷ []) d
+        ≡ (if is_closed entries d then placed entries d else placed entries d + length (filter_map (load_for d) (entry ∷ []))) }
+{}
+
+/// The events among what was placed for a destination, in the order of the places, are the events addressed to it, and the EDUs
+/// likewise.
+pub fn what_is_addressed_is_placed()
+    ensures events { (entries : List Entry) (d : ℕ) → filter_map event_in_load (loads entries d) ≡ addressed entries d }
+    ensures edus { (entries : List Entry) (d : ℕ) → filter_map edu_in_load (loads entries d) ≡ addressed_edus entries d }
+{}
+
+/// Once an outbox is closed no parcel is placed for its destination, and nothing is addressed to it, whatever entries follow.
+pub fn nothing_after_the_close()
+    ensures place { (entries : List Entry) (d : ℕ) → is_closed entries d ≡ true → next_place entries d ≡ None }
+    ensures closed { (entries more : List Entry) (d : ℕ) → is_closed entries d ≡ true → is_closed (entries ++ more) d ≡ true }
+    ensures addressed { (entries more : List Entry) (d : ℕ) → is_closed entries d ≡ true
+        → addressed (entries ++ more) d ≡ addressed entries d }
+    ensures edus { (entries more : List Entry) (d : ℕ) → is_closed entries d ≡ true
+        → addressed_edus (entries ++ more) d ≡ addressed_edus entries d }
+    ensures loads { (entries more : List Entry) (d : ℕ) → is_closed entries d ≡ true → loads (entries ++ more) d ≡ loads entries d }
+{}
+
+/// An entry places at most one parcel for a destination. The parcels bear the numbers from 1 on in their order, and the next one bears
+/// the next number.
+pub fn places_count()
+    ensures within { (entries : List Entry) (d : ℕ) → placed entries d ≤ length entries }
+    ensures next { (entries : List Entry) (d : ℕ) (place : PlaceValue) → next_place entries d ≡ Some place
+        → (place.dest ≡ d) × (place.number ≡ placed entries d + 1) }
+    ensures numbers { (entries : List Entry) (d k : ℕ) → slice_get (parcels entries d) k
+        ≡ option_map (λ load. record { place = record { dest = d; number = k + 1 }; load = load }) (slice_get (loads entries d) k) }
+{}
