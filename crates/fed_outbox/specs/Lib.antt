@@ -1,3 +1,6 @@
 pub mod Transaction
 pub mod Seen
 pub mod Outbox
+pub mod Settlement
+pub mod Together
+pub mod Parts
