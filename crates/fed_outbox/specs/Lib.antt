@@ -4,3 +4,5 @@ pub mod Outbox
 pub mod Settlement
 pub mod Together
 pub mod Parts
+pub mod Lending
+pub mod Runs

@@ -1,5 +1,6 @@
 // The outbox of one destination.
-ghost use Rattle.std.specs.Prelude.{◌≡◌, ◌≤◌, ◌+◌, ◌^◌, Ok, Err, OnOk, OnErr, IfErr, IsErrOf, IsOk, true, false, length, option_map, take, drop};
+ghost use Rattle.std.specs.Prelude.{◌≡◌, ◌≤◌, ◌+◌, ◌^◌, Ok, Err, OnOk, OnErr, IfErr, IsOk, Some, None, true, false, if◌then◌else◌, length, option_map, take, drop};
+ghost use Rattle.std.specs.Borrow.{sem};
 ghost use Rattle.fed_journal.specs.declared.parcel.Load.TheVariants.{End};
 ghost use Rattle.fed_outbox.specs.declared.fault.OutboxFault.TheVariants.{Memory, WrongPlace, Ended};
 ghost use Rattle.fed_outbox.specs.Seen.{seen};
@@ -55,8 +56,10 @@ impl Model for Outbox {
 }
 
 impl Outbox {
-    ghost use Rattle.fed_outbox.specs.Outbox.{new_outbox, accepted, accepted_edus, accepted_count, expected, fits, is_next, with_load, can_cut, cut, is_due, has_number, failed, settle, is_ended, is_unanswered};
+    ghost use Rattle.fed_outbox.specs.Outbox.{new_outbox, accepted, accepted_edus, accepted_count, expected, fits, is_next, with_load, can_cut, cut, is_due, has_number, failed, settle, is_ended, is_unanswered, next_transaction};
     ghost use Rattle.fed_outbox.specs.Settlement.{settlement};
+    ghost use Rattle.fed_outbox.specs.Together.{HoldsTogether};
+    ghost use Rattle.fed_outbox.specs.Lending.{EndsAs};
 
     /// The outbox of a destination, for which nothing was accepted.
     pub fn new(alloc: Global, dest: ServerIndex) -> Outbox
@@ -169,7 +172,20 @@ impl Outbox {
 
     /// Makes a transaction of the first events and EDUs that wait, as many as it may have, where none is unanswered and something
     /// waits: it is then the unanswered one, dated and due now. It takes no memory.
-    pub fn cut(&mut self, now: u64) -> bool
+    pub fn cut(&mut self, now: u64) -> Option<Transaction<'_>>
+        requires { now ≤ 9007199254740991 }
+        ensures* cut { sem 𝓛 (EndsAs self.entry (cut self.old now)) }
+        ensures value { option_map seen result ≡ (if can_cut self.old then Some (next_transaction self.old now) else None) }
+    {
+        if self.cut_next(now) {
+            self.unanswered()
+        } else {
+            None
+        }
+    }
+
+    /// The same, but for lending the transaction: whether one was made.
+    fn cut_next(&mut self, now: u64) -> bool
         requires { now ≤ 9007199254740991 }
         ensures cut { self.new ≡ cut self.old now }
         ensures value { result ≡ can_cut self.old }
@@ -199,7 +215,8 @@ impl Outbox {
 
     /// The transaction that waits for its answer.
     pub fn unanswered(&self) -> Option<Transaction<'_>>
-        ensures { option_map seen result ≡ self.now.unanswered }
+        ensures value { option_map seen result ≡ self.now.unanswered }
+        ensures together { HoldsTogether self.now }
     {
         let sent = self.unanswered?;
         Some(Transaction {

@@ -3,7 +3,7 @@ use Rattle.std.proofs.lemmas.Grind.{common_steps}
 use Rattle.fed_outbox.specs.Outbox.{can_cut}
 use Rattle.fed_outbox.specs.Parts.{outbox_of}
 use Rattle.fed_outbox.proofs.Counts.{cut_is}
-use Rattle.fed_outbox.proofs.outbox.Outbox.cut.Goals as goal
+use Rattle.fed_outbox.proofs.outbox.Outbox.cut_next.Goals as goal
 
 pub returns-clause-cut : goal.returns-clause-cut
 returns-clause-cut c =
