@@ -118,7 +118,7 @@ none_sent o can = go o.unanswered (none_unanswered (outbox_of o) can)
     go None h = refl
     go (Some s) h = cc
 
-cut_where : (o : OutboxState) (now : ℕ) → can_cut o ≡ true
+pub cut_where : (o : OutboxState) (now : ℕ) → can_cut o ≡ true
     → cut o now ≡ record o { unanswered = Some (next_transaction o now); waiting = drop 50 o.waiting; waiting_edus = drop 100 o.waiting_edus; last = o.last + 1; due_at = now }
 cut_where o now can = rw can refl
 
