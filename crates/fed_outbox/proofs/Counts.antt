@@ -1,16 +1,15 @@
 -- What a list has in its front, in the part that was sent, and behind that, each named by a count.
-use Rattle.std.proofs.Common.{◌≡◌, ℕ, ◌+◌, ◌-◌, ◌<◌, ◌≤◌, min, Bool, true, false, not, ◌&&◌, ◌||◌, ◌==◌, if◌then◌else◌, List, [], ◌∷◌, ◌++◌, length, take, drop, Vec, Option, Some, None, option_map, refl, sym, ap, ◌∙◌, subst, arith, length-append, length-drop, ◌^◌, eq-eqb, true≢false}
+use Rattle.std.proofs.Common.{◌≡◌, ℕ, ◌+◌, ◌-◌, ◌≤◌, min, Bool, true, not, ◌&&◌, ◌==◌, if◌then◌else◌, List, [], ◌∷◌, ◌++◌, length, take, drop, Vec, Option, Some, None, option_map, refl, sym, ap, ◌∙◌, subst, arith, length-append, length-drop, ◌^◌, eq-eqb, true≢false}
 use Rattle.std.proofs.Math.Seq.{take-add}
 use Rattle.std.proofs.lemmas.List.{take-append-le, drop-append-le, take-append-drop, drop-drop, take_min, drop_min}
 use Rattle.std.specs.declared.alloc.Global.{Global}
 use Rattle.serde_json.specs.Data.{Data}
 use Rattle.fed_event.specs.Checked.{CheckedEvent}
-use Rattle.fed_journal.specs.declared.parcel.Load.{Load}
-use Rattle.fed_journal.specs.declared.parcel.Load.TheVariants.{Event, Edu, End}
+use Rattle.fed_journal.specs.declared.parcel.Load.TheVariants.{Event, Edu}
 use Rattle.fed_outbox.specs.declared.sent.Sent.{Sent}
 use Rattle.fed_outbox.specs.declared.outbox.Outbox.TheInside.{Inside}
 use Rattle.fed_outbox.specs.Transaction.{TransactionValue}
-use Rattle.fed_outbox.specs.Outbox.{OutboxState, has_number, settle, accepted_count, expected, unanswered_pdus, unanswered_edus, accepted, accepted_edus, with_load, can_cut, cut, is_empty, is_unanswered, taken, next_transaction}
+use Rattle.fed_outbox.specs.Outbox.{OutboxState, settle, expected, unanswered_pdus, unanswered_edus, accepted, accepted_edus, with_load, can_cut, cut, is_unanswered, taken, next_transaction}
 use Rattle.fed_outbox.specs.Together.{HoldsTogether}
 use Rattle.fed_outbox.specs.Parts.{outbox_of, IsKept, pdus_sent, edus_sent, transaction_of}
 
@@ -56,7 +55,7 @@ event_waits o v event h e =
   where
     unanswered : (u : Option Sent) → o.acked + pdus_sent u ≤ length o.pdus.items
         → option_map (transaction_of (drop o.acked (o.pdus.items ++ event ∷ [])) (drop o.acked_edus o.edus.items)) u
-            ≡ option_map (transaction_of (drop o.acked o.pdus.items) (drop o.acked_edus o.edus.items)) u
+        ≡ option_map (transaction_of (drop o.acked o.pdus.items) (drop o.acked_edus o.edus.items)) u
     unanswered None h = refl
     unanswered (Some s) h = rw (sent_push o.acked s.pdus o.pdus.items event h) refl
 
@@ -70,7 +69,7 @@ edu_waits o v edu h e =
   where
     unanswered : (u : Option Sent) → o.acked_edus + edus_sent u ≤ length o.edus.items
         → option_map (transaction_of (drop o.acked o.pdus.items) (drop o.acked_edus (o.edus.items ++ edu ∷ []))) u
-            ≡ option_map (transaction_of (drop o.acked o.pdus.items) (drop o.acked_edus o.edus.items)) u
+        ≡ option_map (transaction_of (drop o.acked o.pdus.items) (drop o.acked_edus o.edus.items)) u
     unanswered None h = refl
     unanswered (Some s) h = rw (sent_push o.acked_edus s.edus o.edus.items edu h) refl
 

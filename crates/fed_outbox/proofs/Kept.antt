@@ -1,5 +1,5 @@
 -- How the parts of an outbox hold together over any calls, and what is settled.
-use Rattle.std.proofs.Common.{◌≡◌, ℕ, zero, suc, ◌+◌, ◌<◌, ◌≤◌, min, Bool, true, false, not, ◌==◌, ◌&&◌, if◌then◌else◌, List, [], ◌∷◌, ◌++◌, length, take, drop, Option, Some, None, refl, sym, ap, ◌∙◌, subst, arith, length-append, length-take, true≢false}
+use Rattle.std.proofs.Common.{◌≡◌, ℕ, suc, ◌+◌, ◌<◌, Bool, true, false, not, ◌==◌, ◌&&◌, if◌then◌else◌, List, [], ◌∷◌, ◌++◌, length, take, Option, Some, None, refl, sym, ap, ◌∙◌, subst, arith, length-append, length-take, true≢false}
 use Rattle.std.proofs.lemmas.List.{append_assoc, append-nil}
 use Rattle.serde_json.specs.Data.{Data}
 use Rattle.fed_event.specs.Checked.{CheckedEvent}
@@ -7,8 +7,8 @@ use Rattle.fed_journal.specs.declared.parcel.Load.{Load}
 use Rattle.fed_journal.specs.declared.parcel.Load.TheVariants.{Event, Edu, End}
 use Rattle.fed_outbox.specs.Transaction.{TransactionValue}
 use Rattle.fed_outbox.specs.Outbox.{OutboxState, unanswered_pdus, unanswered_edus, fits, with_load, is_empty, is_unanswered, can_cut, cut, has_number, one_failure_more, failed, taken, settle}
-use Rattle.fed_outbox.specs.Together.{IsWhole, IsNewest, HoldsTogether}
-use Rattle.fed_outbox.specs.Runs.{Call, Accept, Cut, Failed, Settle, after_call, after, settles}
+use Rattle.fed_outbox.specs.Together.{IsNewest, HoldsTogether}
+use Rattle.fed_outbox.specs.Runs.{Call, Accept, Cut, Failed, Settle, after_call, after}
 use Rattle.fed_outbox.proofs.Counts.{none_unanswered, cut_where}
 use Rattle.fed_outbox.proofs.Steps.{and_true}
 
@@ -25,16 +25,16 @@ cut_together o now h = go (can_cut o) refl
     go : (b : Bool) → can_cut o ≡ b → HoldsTogether (cut o now)
     go false no_cut = let e : cut o now ≡ o = rw no_cut refl in subst HoldsTogether (sym e) h
     go true can =
-      let none = none_unanswered o can in
-      let some = some_of 49 99 o.waiting o.waiting_edus (and_true (not (is_unanswered o.unanswered)) (not (is_empty o.waiting && is_empty o.waiting_edus)) can).1 in
-      let no_pdus : length (unanswered_pdus o.unanswered) ≡ 0 = ap (λ u. length (unanswered_pdus u)) none in
-      let no_edus : length (unanswered_edus o.unanswered) ≡ 0 = ap (λ u. length (unanswered_edus u)) none in
-      let last = h.last in
-      subst HoldsTogether (sym (cut_where o now can)) (record {
-        newest = (refl, record { pdus = rw (length-take 50 o.waiting) (omega arith); edus = rw (length-take 100 o.waiting_edus) (omega arith); some = some });
-        failures = h.failures;
-        last = omega arith;
-      })
+        let none = none_unanswered o can in
+        let some = some_of 49 99 o.waiting o.waiting_edus (and_true (not (is_unanswered o.unanswered)) (not (is_empty o.waiting && is_empty o.waiting_edus)) can).1 in
+        let no_pdus : length (unanswered_pdus o.unanswered) ≡ 0 = ap (λ u. length (unanswered_pdus u)) none in
+        let no_edus : length (unanswered_edus o.unanswered) ≡ 0 = ap (λ u. length (unanswered_edus u)) none in
+        let last = h.last in
+        subst HoldsTogether (sym (cut_where o now can)) (record {
+          newest = (refl, record { pdus = rw (length-take 50 o.waiting) (omega arith); edus = rw (length-take 100 o.waiting_edus) (omega arith); some = some });
+          failures = h.failures;
+          last = omega arith;
+        })
 
 with_load_together : (o : OutboxState) (load : Load) → HoldsTogether o → HoldsTogether (with_load o load)
 with_load_together o (Event event) h = record { newest = go o.unanswered h.newest; failures = h.failures; last = h.last }
@@ -135,8 +135,9 @@ call_extends o (Settle n status now) = go (has_number o.unanswered n) (status ==
 
 both_extend : (o mid next : OutboxState) → Extends o mid → Extends mid next → Extends o next
 both_extend o mid next ((xs, e), (ds, f)) ((ys, g), (es, h)) = (
-    (xs ++ ys, g ∙ ap (λ l. l ++ ys) e ∙ append_assoc o.settled xs ys),
-    (ds ++ es, h ∙ ap (λ l. l ++ es) f ∙ append_assoc o.settled_edus ds es))
+  (xs ++ ys, g ∙ ap (λ l. l ++ ys) e ∙ append_assoc o.settled xs ys),
+  (ds ++ es, h ∙ ap (λ l. l ++ es) f ∙ append_assoc o.settled_edus ds es),
+)
 
 pub calls_extend : (o : OutboxState) (calls : List Call) → Extends o (after o calls)
 calls_extend o [] = keeps o o refl refl

@@ -1,16 +1,11 @@
 -- What calls do, one after another, to all that was accepted.
-use Rattle.std.proofs.Common.{◌≡◌, ℕ, ◌+◌, List, [], ◌∷◌, ◌++◌, length, map, Option, Some, None, refl, sym, ap, ◌∙◌, subst, arith}
+use Rattle.std.proofs.Common.{◌≡◌, ◌+◌, List, [], ◌∷◌, ◌++◌, length, map, Option, Some, None, refl, sym, ap, ◌∙◌, arith}
 use Rattle.std.proofs.lemmas.List.{append_assoc, append-nil}
 use Rattle.std.specs.Option.{option_to_list}
-use Rattle.std.specs.List.{filter_map}
 use Rattle.std.proofs.lemmas.List.Elements.{filter_map-append}
-use Rattle.serde_json.specs.Data.{Data}
-use Rattle.fed_event.specs.Checked.{CheckedEvent}
-use Rattle.fed_journal.specs.Place.{PlaceValue}
-use Rattle.fed_journal.specs.declared.parcel.Load.{Load}
 use Rattle.fed_journal.specs.declared.parcel.Parcel.{Parcel}
 use Rattle.fed_journal.specs.Journal.{numbered}
-use Rattle.fed_outbox.specs.Outbox.{OutboxState, new_outbox, accepted, accepted_edus, accepted_count, expected}
+use Rattle.fed_outbox.specs.Outbox.{OutboxState, accepted, accepted_edus, accepted_count, expected}
 use Rattle.fed_outbox.specs.Runs.{Call, after_call, after, accepted_by, accepted_parcels, event_in, edu_in, events_of, edus_of, places_from}
 use Rattle.fed_outbox.proofs.Steps.{Same, Adds, Does, call_does, same_expected}
 
@@ -37,7 +32,7 @@ same_grows o mid next parcels same more =
       dest = more.dest ∙ same.dest;
       places = more.places ∙ ap (λ d. places_from d (expected mid) (length parcels)) same.dest ∙ ap (λ n. places_from o.dest n (length parcels)) number;
       numbered = more.numbered ∙ ap (λ d. numbered d (accepted_count mid) (map (λ parcel. parcel.load) parcels)) same.dest
-        ∙ ap (λ n. numbered o.dest n (map (λ parcel. parcel.load) parcels)) count;
+          ∙ ap (λ n. numbered o.dest n (map (λ parcel. parcel.load) parcels)) count;
     }
 
 adds_grows : (o mid next : OutboxState) (parcel : Parcel) (parcels : List Parcel) → Adds o parcel mid → Grows mid parcels next → Grows o (parcel ∷ parcels) next
@@ -45,18 +40,18 @@ adds_grows o mid next parcel parcels adds more =
     let count : accepted_count mid ≡ accepted_count o + 1 = (let number = adds.number in omega arith) in
     record {
       events = more.events ∙ ap (λ l. l ++ events_of parcels) adds.events ∙ append_assoc (accepted o) (events_of (parcel ∷ [])) (events_of parcels)
-        ∙ ap (λ l. accepted o ++ l) (sym (filter_map-append (λ parcel. event_in parcel.load) (parcel ∷ []) parcels));
+          ∙ ap (λ l. accepted o ++ l) (sym (filter_map-append (λ parcel. event_in parcel.load) (parcel ∷ []) parcels));
       edus = more.edus ∙ ap (λ l. l ++ edus_of parcels) adds.edus ∙ append_assoc (accepted_edus o) (edus_of (parcel ∷ [])) (edus_of parcels)
-        ∙ ap (λ l. accepted_edus o ++ l) (sym (filter_map-append (λ parcel. edu_in parcel.load) (parcel ∷ []) parcels));
+          ∙ ap (λ l. accepted_edus o ++ l) (sym (filter_map-append (λ parcel. edu_in parcel.load) (parcel ∷ []) parcels));
       number = (let first = adds.number in let rest = more.number in omega arith);
       dest = more.dest ∙ adds.dest;
       places = ap (λ p. p ∷ map (λ parcel. parcel.place) parcels) adds.place
-        ∙ ap (λ l. record { dest = o.dest; number = expected o } ∷ l)
+          ∙ ap (λ l. record { dest = o.dest; number = expected o } ∷ l)
           (more.places ∙ ap (λ d. places_from d (expected mid) (length parcels)) adds.dest ∙ ap (λ n. places_from o.dest n (length parcels)) adds.number);
       numbered = ap (λ p. record { place = p; load = parcel.load } ∷ parcels) adds.place
-        ∙ ap (λ l. record { place = record { dest = o.dest; number = expected o }; load = parcel.load } ∷ l)
+          ∙ ap (λ l. record { place = record { dest = o.dest; number = expected o }; load = parcel.load } ∷ l)
           (more.numbered ∙ ap (λ d. numbered d (accepted_count mid) (map (λ parcel. parcel.load) parcels)) adds.dest
-            ∙ ap (λ n. numbered o.dest n (map (λ parcel. parcel.load) parcels)) count);
+          ∙ ap (λ n. numbered o.dest n (map (λ parcel. parcel.load) parcels)) count);
     }
 
 does_grows : (o mid next : OutboxState) (parcel : Option Parcel) (parcels : List Parcel) → Does o parcel mid → Grows mid parcels next → Grows o (option_to_list parcel ++ parcels) next

@@ -1,16 +1,14 @@
 -- What one call does to all that was accepted.
-use Rattle.std.proofs.Common.{◌≡◌, ℕ, ◌+◌, Bool, true, false, not, ◌==◌, ◌&&◌, if◌then◌else◌, List, [], ◌∷◌, ◌++◌, length, take, drop, Option, Some, None, refl, sym, ap, ◌∙◌, subst, arith, length-append, true≢false}
+use Rattle.std.proofs.Common.{◌≡◌, ℕ, ◌+◌, Bool, true, false, not, ◌==◌, ◌&&◌, if◌then◌else◌, List, [], ◌∷◌, ◌++◌, length, Option, Some, None, refl, sym, ap, ◌∙◌, subst, arith, length-append, true≢false}
 use Rattle.std.proofs.lemmas.Bool.{eqb-true}
 use Rattle.std.proofs.lemmas.List.{append_assoc, append-nil, take-append-drop}
-use Rattle.std.specs.List.{filter_map}
 use Rattle.serde_json.specs.Data.{Data}
 use Rattle.fed_event.specs.Checked.{CheckedEvent}
 use Rattle.fed_journal.specs.Place.{PlaceValue}
 use Rattle.fed_journal.specs.declared.parcel.Load.{Load}
 use Rattle.fed_journal.specs.declared.parcel.Load.TheVariants.{Event, Edu, End}
 use Rattle.fed_journal.specs.declared.parcel.Parcel.{Parcel}
-use Rattle.fed_outbox.specs.Transaction.{TransactionValue}
-use Rattle.fed_outbox.specs.Outbox.{OutboxState, unanswered_pdus, unanswered_edus, accepted, accepted_edus, accepted_count, expected, is_next, fits, with_load, can_cut, cut, has_number, one_failure_more, failed, taken, settle}
+use Rattle.fed_outbox.specs.Outbox.{OutboxState, unanswered_pdus, unanswered_edus, accepted, accepted_edus, expected, is_next, fits, with_load, can_cut, cut, has_number, one_failure_more, failed, taken, settle}
 use Rattle.fed_outbox.specs.Runs.{Call, Accept, Cut, Failed, Settle, after_call, accepted_by, events_of, edus_of}
 use Rattle.fed_outbox.proofs.Counts.{none_unanswered, cut_where}
 
@@ -41,13 +39,13 @@ cut_same o now = go (can_cut o) refl
     go : (b : Bool) → can_cut o ≡ b → Same o (cut o now)
     go false no_cut = let e : cut o now ≡ o = rw no_cut refl in subst (Same o) (sym e) (same o)
     go true can =
-      let none = none_unanswered o can in
-      subst (Same o) (sym (cut_where o now can)) (record {
-        events = ap (λ l. o.settled ++ l) (take-append-drop 50 o.waiting) ∙ sym (ap (λ u. o.settled ++ (unanswered_pdus u ++ o.waiting)) none);
-        edus = ap (λ l. o.settled_edus ++ l) (take-append-drop 100 o.waiting_edus) ∙ sym (ap (λ u. o.settled_edus ++ (unanswered_edus u ++ o.waiting_edus)) none);
-        end = refl;
-        dest = refl;
-      })
+        let none = none_unanswered o can in
+        subst (Same o) (sym (cut_where o now can)) (record {
+          events = ap (λ l. o.settled ++ l) (take-append-drop 50 o.waiting) ∙ sym (ap (λ u. o.settled ++ (unanswered_pdus u ++ o.waiting)) none);
+          edus = ap (λ l. o.settled_edus ++ l) (take-append-drop 100 o.waiting_edus) ∙ sym (ap (λ u. o.settled_edus ++ (unanswered_edus u ++ o.waiting_edus)) none);
+          end = refl;
+          dest = refl;
+        })
 
 taken_same : (o : OutboxState) → Same o (taken o)
 taken_same o = record {
@@ -98,21 +96,23 @@ with_load_adds o parcel fit =
   where
     one_more : {A : Type 0} (xs ys zs : List A) (x : A) → xs ++ (ys ++ (zs ++ x ∷ [])) ≡ xs ++ (ys ++ zs) ++ x ∷ []
     one_more xs ys zs x = sym (append_assoc xs (ys ++ zs) (x ∷ []) ∙ ap (λ l. xs ++ l) (append_assoc ys zs (x ∷ [])))
+
     ended : (b : Bool) → not b ≡ true → ends b ≡ 0
     ended true h = absurd (true≢false (sym h))
     ended false h = refl
+
     go : (load : Load) → not o.has_end ≡ true → parcel.place ≡ record { dest = o.dest; number = expected o } → Adds o (record { place = parcel.place; load = load }) (with_load o load)
     go (Event event) not_ended place =
-      let e = one_more o.settled (unanswered_pdus o.unanswered) o.waiting event in
-      let longer : length (accepted (with_load o (Event event))) ≡ length (accepted o) + 1 = ap length e ∙ length-append (accepted o) (event ∷ []) in
-      record { events = e; edus = sym (append-nil (accepted_edus o)); number = omega arith; dest = refl; place = place }
+        let e = one_more o.settled (unanswered_pdus o.unanswered) o.waiting event in
+        let longer : length (accepted (with_load o (Event event))) ≡ length (accepted o) + 1 = ap length e ∙ length-append (accepted o) (event ∷ []) in
+        record { events = e; edus = sym (append-nil (accepted_edus o)); number = omega arith; dest = refl; place = place }
     go (Edu edu) not_ended place =
-      let e = one_more o.settled_edus (unanswered_edus o.unanswered) o.waiting_edus edu in
-      let longer : length (accepted_edus (with_load o (Edu edu))) ≡ length (accepted_edus o) + 1 = ap length e ∙ length-append (accepted_edus o) (edu ∷ []) in
-      record { events = sym (append-nil (accepted o)); edus = e; number = omega arith; dest = refl; place = place }
+        let e = one_more o.settled_edus (unanswered_edus o.unanswered) o.waiting_edus edu in
+        let longer : length (accepted_edus (with_load o (Edu edu))) ≡ length (accepted_edus o) + 1 = ap length e ∙ length-append (accepted_edus o) (edu ∷ []) in
+        record { events = sym (append-nil (accepted o)); edus = e; number = omega arith; dest = refl; place = place }
     go End not_ended place =
-      let none = ended o.has_end not_ended in
-      record { events = sym (append-nil (accepted o)); edus = sym (append-nil (accepted_edus o)); number = omega arith; dest = refl; place = place }
+        let none = ended o.has_end not_ended in
+        record { events = sym (append-nil (accepted o)); edus = sym (append-nil (accepted_edus o)); number = omega arith; dest = refl; place = place }
 
 -- ---- one call
 

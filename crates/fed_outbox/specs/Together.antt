@@ -1,5 +1,5 @@
 -- How the parts of an outbox hold together.
-use Rattle.std.specs.Prelude.{◌≡◌, ℕ, ◌+◌, ◌<◌, ◌≤◌, length, Option, Some, None}
+use Rattle.std.specs.Prelude.{◌≡◌, ◌+◌, ◌<◌, ◌≤◌, length, Option, Some, None}
 use Rattle.fed_outbox.specs.Transaction.{TransactionValue}
 use Rattle.fed_outbox.specs.Outbox.{OutboxState, unanswered_pdus, unanswered_edus}
 

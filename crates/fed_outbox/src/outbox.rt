@@ -210,7 +210,8 @@ impl Outbox {
     fn can_cut(&self) -> bool
         ensures { result ≡ can_cut self.now }
     {
-        self.unanswered.is_none() && (self.acked < self.pdus.len() || self.acked_edus < self.edus.len())
+        self.unanswered.is_none()
+            && (self.acked < self.pdus.len() || self.acked_edus < self.edus.len())
     }
 
     /// The transaction that waits for its answer.

@@ -1,6 +1,5 @@
 use Rattle.std.proofs.Common.{refl, arith}
 use Rattle.fed_outbox.specs.Outbox.{new_outbox}
-use Rattle.fed_outbox.specs.Together.{HoldsTogether}
 use Rattle.fed_outbox.proofs.Kept.{call_together, calls_together}
 use Rattle.fed_outbox.proofs.laws.outboxes_hold_together.Goals as goal
 

@@ -1,7 +1,6 @@
-use Rattle.std.proofs.Common.{◌≡◌, ◌≤◌, ◌+◌, ◌^◌, ◌++◌, ◌∷◌, [], ◌∙◌, ap, sym, subst, refl}
+use Rattle.std.proofs.Common.{◌≤◌, ◌+◌, ◌^◌, ◌++◌, ◌∷◌, [], ◌∙◌, ap, sym, subst, refl}
 use Rattle.fed_journal.specs.declared.parcel.Load.TheVariants.{Event, Edu, End}
 use Rattle.fed_outbox.specs.Outbox.{OutboxState, expected, with_load}
-use Rattle.fed_outbox.specs.Parts.{outbox_of}
 use Rattle.fed_outbox.proofs.Counts.{event_kept, edu_kept, event_waits, edu_waits}
 use Rattle.fed_outbox.proofs.outbox.Outbox.accept.Goals as goal
 use Rattle.fed_outbox.proofs.outbox.Outbox.accept.Goals.{in-Event+in_default, in-Edu+in_default-reserve, in-End}
@@ -22,13 +21,13 @@ invariant_of-self-in-Edu c =
 pub returns-clause-ok : goal.returns-clause-ok
 returns-clause-ok c =
     elim c.match-load.branch [
-      in-Event+in_default w ↦
-        let pushed = (rw w.unwrap.ensures at w.push.ensures.items) ∙ ap (λ l. l ++ w.in-Event.event ∷ []) w.reserve.ensures.items in
-        w.self-is ∙ event_waits c.self.inside w.push.new.self w.in-Event.event c.self.invariant.pdus pushed
-        ∙ ap (λ o. with_load o (Event w.in-Event.event)) c.self.view_is ∙ ap (with_load c.args.self.now) (sym w.in-Event.is)
-    | in-Edu+in_default-reserve w ↦
-        let pushed = (rw w.unwrap-in-Edu.ensures at w.push-in-Edu.ensures.items) ∙ ap (λ l. l ++ w.in-Edu.edu ∷ []) w.reserve-in-Edu.ensures.items in
-        w.self-is ∙ edu_waits c.self.inside w.push-in-Edu.new.self w.in-Edu.edu c.self.invariant.edus pushed
-        ∙ ap (λ o. with_load o (Edu w.in-Edu.edu)) c.self.view_is ∙ ap (with_load c.args.self.now) (sym w.in-Edu.is)
-    | in-End w ↦ w.self-is ∙ ap (λ o. with_load o End) c.self.view_is ∙ ap (with_load c.args.self.now) (sym w.in-End.is)
+      | in-Event+in_default w ↦
+          let pushed = (rw w.unwrap.ensures at w.push.ensures.items) ∙ ap (λ l. l ++ w.in-Event.event ∷ []) w.reserve.ensures.items in
+          w.self-is ∙ event_waits c.self.inside w.push.new.self w.in-Event.event c.self.invariant.pdus pushed
+          ∙ ap (λ o. with_load o (Event w.in-Event.event)) c.self.view_is ∙ ap (with_load c.args.self.now) (sym w.in-Event.is)
+      | in-Edu+in_default-reserve w ↦
+          let pushed = (rw w.unwrap-in-Edu.ensures at w.push-in-Edu.ensures.items) ∙ ap (λ l. l ++ w.in-Edu.edu ∷ []) w.reserve-in-Edu.ensures.items in
+          w.self-is ∙ edu_waits c.self.inside w.push-in-Edu.new.self w.in-Edu.edu c.self.invariant.edus pushed
+          ∙ ap (λ o. with_load o (Edu w.in-Edu.edu)) c.self.view_is ∙ ap (with_load c.args.self.now) (sym w.in-Edu.is)
+      | in-End w ↦ w.self-is ∙ ap (λ o. with_load o End) c.self.view_is ∙ ap (with_load c.args.self.now) (sym w.in-End.is)
     ]
