@@ -54,7 +54,8 @@ pub fn what_is_settled_stays()
 {}
 
 /// Over any calls of a new outbox the unanswered transaction is the newest, with at most 50 events and 100 EDUs and at least one of
-/// them; at most 13 failures are counted; and where none is unanswered nothing is due and no failure is counted.
+/// them; at most 13 failures are counted; where none is unanswered nothing is due and no failure is counted; and there are no more
+/// transactions than events and EDUs that were sent.
 pub fn outboxes_hold_together()
     ensures new { (d : ℕ) → HoldsTogether (new_outbox d) }
     ensures call { (o : OutboxState) (call : Call) → HoldsTogether o → HoldsTogether (after_call o call) }
