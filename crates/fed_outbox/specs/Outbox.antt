@@ -1,7 +1,7 @@
 -- The outbox of a destination: of what was accepted, the part that was settled, the transaction that waits for its answer, and what waits
 -- to be sent; the number of the newest transaction; how often in a row it failed and when it is due again. Each call is one of the
 -- functions below. (Matrix, Server-Server API, "Transactions": a sender keeps a transaction, and sends it again, until it is answered.)
-use Rattle.std.specs.Prelude.{ℕ, ◌+◌, ◌-◌, ◌*◌, ◌^◌, min, Bool, true, false, not, ◌==◌, ◌&&◌, ◌||◌, nat_le, nat_lt, if◌then◌else◌, List, [], ◌∷◌, ◌++◌, length, take, drop, Option, Some, None, refl}
+use Rattle.std.specs.Prelude.{ℕ, ◌+◌, ◌-◌, ◌*◌, ◌^◌, min, Bool, true, false, not, ◌==◌, ◌&&◌, nat_le, if◌then◌else◌, List, [], ◌∷◌, ◌++◌, length, take, drop, Option, Some, None, refl}
 use Rattle.std.specs.Coded.{Coded, code_by, coded×, coded_ℕ, coded_bool, coded_list, coded_option}
 use Rattle.serde_json.specs.Data.{Data}
 use Rattle.fed_json.specs.Code.{coded_data}
@@ -9,7 +9,6 @@ use Rattle.fed_event.specs.Checked.{CheckedEvent, checked_code}
 use Rattle.fed_journal.specs.Place.{PlaceValue}
 use Rattle.fed_journal.specs.declared.parcel.Load.{Load}
 use Rattle.fed_journal.specs.declared.parcel.Load.TheVariants.{Event, Edu, End}
-use Rattle.fed_journal.specs.declared.parcel.Parcel.{Parcel}
 use Rattle.fed_outbox.specs.Transaction.{TransactionValue, transaction_code}
 
 pub record OutboxState : Type 0 where
@@ -54,8 +53,16 @@ expected o = accepted_count o + 1
 -- an outbox that has accepted nothing
 abbrev pub new_outbox : ℕ → OutboxState
 new_outbox dest = record {
-  dest = dest; settled = []; settled_edus = []; unanswered = None; waiting = []; waiting_edus = [];
-  last = 0; failures = 0; due_at = 0; has_end = false;
+  dest = dest;
+  settled = [];
+  settled_edus = [];
+  unanswered = None;
+  waiting = [];
+  waiting_edus = [];
+  last = 0;
+  failures = 0;
+  due_at = 0;
+  has_end = false;
 }
 
 -- the parcel at this place may be accepted: it is for this destination and comes next, and no end was accepted
@@ -142,11 +149,18 @@ abbrev pub outbox_code : Coded OutboxState
 outbox_code =
     code_by (ℕ × (List CheckedEvent × (List Data × (Option TransactionValue × (List CheckedEvent × (List Data × (ℕ × (ℕ × (ℕ × Bool)))))))))
     (coded× coded_ℕ (coded× (coded_list checked_code) (coded× (coded_list coded_data) (coded× (coded_option transaction_code)
-      (coded× (coded_list checked_code) (coded× (coded_list coded_data) (coded× coded_ℕ (coded× coded_ℕ (coded× coded_ℕ coded_bool)))))))))
+    (coded× (coded_list checked_code) (coded× (coded_list coded_data) (coded× coded_ℕ (coded× coded_ℕ (coded× coded_ℕ coded_bool)))))))))
     (λ o. (o.dest, (o.settled, (o.settled_edus, (o.unanswered, (o.waiting, (o.waiting_edus, (o.last, (o.failures, (o.due_at, o.has_end))))))))))
     (λ p. record {
-      dest = p.0; settled = p.1.0; settled_edus = p.1.1.0; unanswered = p.1.1.1.0; waiting = p.1.1.1.1.0;
-      waiting_edus = p.1.1.1.1.1.0; last = p.1.1.1.1.1.1.0; failures = p.1.1.1.1.1.1.1.0; due_at = p.1.1.1.1.1.1.1.1.0;
+      dest = p.0;
+      settled = p.1.0;
+      settled_edus = p.1.1.0;
+      unanswered = p.1.1.1.0;
+      waiting = p.1.1.1.1.0;
+      waiting_edus = p.1.1.1.1.1.0;
+      last = p.1.1.1.1.1.1.0;
+      failures = p.1.1.1.1.1.1.1.0;
+      due_at = p.1.1.1.1.1.1.1.1.0;
       has_end = p.1.1.1.1.1.1.1.1.1;
     })
     (λ _. refl)

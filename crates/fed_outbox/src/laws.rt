@@ -1,0 +1,73 @@
+// What holds of all outboxes, over every list of calls.
+ghost use Rattle.std.specs.Prelude.{◌≡◌, ◌≢◌, ◌≤◌, ◌<◌, ◌+◌, ◌*◌, ℕ, List, [], ◌∷◌, ◌++◌, Some, None, length, map, true, false};
+ghost use Rattle.serde_json.specs.Data.{Data};
+ghost use Rattle.fed_event.specs.Checked.{CheckedEvent};
+ghost use Rattle.fed_journal.specs.declared.parcel.Parcel.{Parcel};
+ghost use Rattle.fed_journal.specs.Journal.{numbered};
+ghost use Rattle.fed_outbox.specs.Transaction.{TransactionValue};
+ghost use Rattle.fed_outbox.specs.Outbox.{OutboxState, new_outbox, accepted, accepted_edus, expected, unanswered_pdus, unanswered_edus, is_unanswered, cut, failed, delay};
+ghost use Rattle.fed_outbox.specs.Together.{HoldsTogether};
+ghost use Rattle.fed_outbox.specs.Runs.{Call, Settle, after_call, after, accepted_by, accepted_parcels, events_of, edus_of, places_from, settles};
+
+/// What a parcel holds that an outbox accepts comes behind all that was accepted before, and the next number is one more; no other
+/// call changes what was accepted, or the next number.
+pub fn what_accept_adds()
+    ensures events { (o : OutboxState) (call : Call) (parcel : Parcel) → accepted_by o call ≡ Some parcel
+        → accepted (after_call o call) ≡ accepted o ++ events_of (parcel ∷ []) }
+    ensures edus { (o : OutboxState) (call : Call) (parcel : Parcel) → accepted_by o call ≡ Some parcel
+        → accepted_edus (after_call o call) ≡ accepted_edus o ++ edus_of (parcel ∷ []) }
+    ensures number { (o : OutboxState) (call : Call) (parcel : Parcel) → accepted_by o call ≡ Some parcel
+        → expected (after_call o call) ≡ expected o + 1 }
+    ensures others { (o : OutboxState) (call : Call) → accepted_by o call ≡ None
+        → (accepted (after_call o call) ≡ accepted o) × (accepted_edus (after_call o call) ≡ accepted_edus o) × (expected (after_call o call) ≡ expected o) }
+{}
+
+/// The parcels that a new outbox accepts over any calls have the places of its destination from number 1 on, in order and without a
+/// gap, and what was accepted is what they hold, in order.
+pub fn accepted_places_have_no_gap()
+    ensures places { (d : ℕ) (calls : List Call) → let parcels = accepted_parcels (new_outbox d) calls in
+        map (λ parcel. parcel.place) parcels ≡ places_from d 1 (length parcels) }
+    ensures parcels { (d : ℕ) (calls : List Call) → let parcels = accepted_parcels (new_outbox d) calls in
+        parcels ≡ numbered d 0 (map (λ parcel. parcel.load) parcels) }
+    ensures events { (d : ℕ) (calls : List Call) → accepted (after (new_outbox d) calls) ≡ events_of (accepted_parcels (new_outbox d) calls) }
+    ensures edus { (d : ℕ) (calls : List Call) → accepted_edus (after (new_outbox d) calls) ≡ edus_of (accepted_parcels (new_outbox d) calls) }
+    ensures number { (d : ℕ) (calls : List Call) → expected (after (new_outbox d) calls) ≡ length (accepted_parcels (new_outbox d) calls) + 1 }
+    ensures dest { (d : ℕ) (calls : List Call) → (after (new_outbox d) calls).dest ≡ d }
+{}
+
+/// The unanswered transaction stays, with its number and all that it has, until it is answered with 200: so what is sent again is the
+/// same. While it stays a cut changes nothing.
+pub fn the_unanswered_stays()
+    ensures stays { (o : OutboxState) (call : Call) (t : TransactionValue) → o.unanswered ≡ Some t → ((now : ℕ) → call ≢ Settle t.number 200 now)
+        → (after_call o call).unanswered ≡ Some t }
+    ensures cut { (o : OutboxState) (now : ℕ) → is_unanswered o.unanswered ≡ true → cut o now ≡ o }
+{}
+
+/// What is settled stays, and grows only by what the unanswered transaction has, by an answer of 200 to that one.
+pub fn what_is_settled_stays()
+    ensures settled { (o : OutboxState) (call : Call) → settles o call ≡ true
+        → ((after_call o call).settled ≡ o.settled ++ unanswered_pdus o.unanswered) × ((after_call o call).settled_edus ≡ o.settled_edus ++ unanswered_edus o.unanswered) }
+    ensures others { (o : OutboxState) (call : Call) → settles o call ≡ false
+        → ((after_call o call).settled ≡ o.settled) × ((after_call o call).settled_edus ≡ o.settled_edus) }
+    ensures events { (o : OutboxState) (calls : List Call) → (more : List CheckedEvent) × ((after o calls).settled ≡ o.settled ++ more) }
+    ensures edus { (o : OutboxState) (calls : List Call) → (more : List Data) × ((after o calls).settled_edus ≡ o.settled_edus ++ more) }
+{}
+
+/// Over any calls of a new outbox the unanswered transaction is the newest, with at most 50 events and 100 EDUs and at least one of
+/// them; at most 13 failures are counted; where none is unanswered nothing is due and no failure is counted; and there are no more
+/// transactions than events and EDUs that were sent.
+pub fn outboxes_hold_together()
+    ensures new { (d : ℕ) → HoldsTogether (new_outbox d) }
+    ensures call { (o : OutboxState) (call : Call) → HoldsTogether o → HoldsTogether (after_call o call) }
+    ensures calls { (o : OutboxState) (calls : List Call) → HoldsTogether o → HoldsTogether (after o calls) }
+    ensures runs { (d : ℕ) (calls : List Call) → HoldsTogether (after (new_outbox d) calls) }
+{}
+
+/// The delay after a failure is a second, doubles with each further failure in a row, and is an hour from the thirteenth on.
+pub fn delays_double_up_to_an_hour()
+    ensures first { delay 1 ≡ 1000 }
+    ensures doubled { (failures : ℕ) → 0 < failures → failures < 12 → delay (failures + 1) ≡ 2 * delay failures }
+    ensures twelfth { delay 12 ≡ 2048000 }
+    ensures most { (failures : ℕ) → 13 ≤ failures → delay failures ≡ 3600000 }
+    ensures counted { (o : OutboxState) (n now : ℕ) → o.failures ≡ 13 → (failed o n now).failures ≡ 13 }
+{}
