@@ -1,5 +1,5 @@
 // Some of the listed servers.
-ghost use Rattle.std.specs.Prelude.{◌≡◌, ◌==◌, [], length, IfOk};
+ghost use Rattle.std.specs.Prelude.{◌≡◌, ◌==◌, [], length, IfOk, IfSome, IsSome, IsNone};
 ghost use Rattle.std.specs.List.Sorted.{IsStrictlyIncreasing};
 ghost use Rattle.fed_dest.specs.ServerSet.{is_among};
 
@@ -46,6 +46,18 @@ impl ServerSet {
         ensures { result ≡ servers.items }
     {
         ServerSet { servers }
+    }
+
+    /// The servers of a list, where their places rise strictly. It takes no memory.
+    pub fn rising(servers: Vec<ServerIndex>) -> Option<ServerSet>
+        ensures some { IfSome result (λ set. set ≡ servers.items) }
+        ensures rising { IsSome result → IsStrictlyIncreasing servers.items }
+        ensures none { IsNone result → ¬ IsStrictlyIncreasing servers.items }
+    {
+        if !servers.is_sorted_by(|server, next| server.place() < next.place()) {
+            return None;
+        }
+        Some(ServerSet { servers })
     }
 
     /// How many servers they are.
