@@ -1,4 +1,5 @@
 // A body that is too large, and the reply for want of memory.
+use fed_app::InboxSetup;
 use fed_event::Trusting;
 use fed_inbox::{Inbox, Refusal};
 use std::alloc::Global;
@@ -10,7 +11,8 @@ fn inbox(alloc: Global) -> Result<Inbox, Fail> {
     servers.push(String::from_str(alloc, "a.example")?)?;
     let mut rooms = Vec::new(alloc);
     rooms.push(String::from_str(alloc, "!r:a.example")?)?;
-    Ok(Inbox::new(alloc, String::from_str(alloc, "b.example")?, servers, rooms)?)
+    let setup = InboxSetup::read(alloc, "b.example", &servers, rooms)?;
+    Ok(Inbox::new(alloc, setup.own, setup.servers, setup.rooms)?)
 }
 
 #[test]

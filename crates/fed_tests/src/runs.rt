@@ -34,16 +34,12 @@ const OUTPUT: &str = "\
 const NOT_LISTED: &str = "403 {\"errcode\":\"M_FORBIDDEN\",\"error\":\"server not listed\"}\n";
 
 // The inbox of `b.example`, which takes from `a.example`.
-fn setup(alloc: Global) -> Result<InboxSetup, AllocError> {
+fn setup(alloc: Global) -> Result<InboxSetup, Fail> {
     let mut servers = Vec::new(alloc);
     servers.push(String::from_str(alloc, "a.example")?)?;
     let mut rooms = Vec::new(alloc);
     rooms.push(String::from_str(alloc, "!r:a.example")?)?;
-    Ok(InboxSetup {
-        own: String::from_str(alloc, "b.example")?,
-        servers,
-        rooms,
-    })
+    Ok(InboxSetup::read(alloc, "b.example", &servers, rooms)?)
 }
 
 // Gives its bytes in pieces of so many at most, fails at the call after so many, and asks to be called again every other time
