@@ -47,7 +47,7 @@ pub fn inbox_run<R: Read + Drop, W: Write>(
         servers,
         rooms,
     } = setup;
-    let keys = Trusting::new(String::from_str(alloc, &own)?);
+    let keys = Trusting::new(String::from_str(alloc, own.as_str())?);
     let inbox = Inbox::new(alloc, own, servers, rooms)?;
     let mut input = Input::new(alloc, reader, MAX_READS)?;
     answer_lines(alloc, inbox, &keys, &mut input, writer)

@@ -7,7 +7,7 @@ ghost use Rattle.fed_app.specs.declared.setup.SetupFault.TheVariants.{Memory, Ba
 
 use fed_dest::{List, ListFault, NameFault, ServerName};
 use fed_json::NoMemory;
-use std::alloc::Global;
+use std::alloc::{AllocFailed, Global};
 use thiserror::Error;
 
 /// Whose inbox it is.
@@ -36,6 +36,14 @@ impl From<NoMemory> for SetupFault {
     ghost from_gives = { λ _ fault. fault ≡ Memory };
 
     fn from(_error: NoMemory) -> SetupFault {
+        SetupFault::Memory
+    }
+}
+
+impl<T: Drop> From<AllocFailed<T>> for SetupFault {
+    ghost from_gives = { λ _ fault. fault ≡ Memory };
+
+    fn from(_error: AllocFailed<T>) -> SetupFault {
         SetupFault::Memory
     }
 }
