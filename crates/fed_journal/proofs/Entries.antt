@@ -82,23 +82,29 @@ module _ (d : ℕ) (entry : Entry) where
   pub loads-one : loads (entry ∷ []) d ≡ filter_map (load_for d) (entry ∷ [])
   loads-one = ap (filter_map (load_for d)) through-one
 
-pub addressed-one : (d : ℕ) (entry : Entry) → addressed (entry ∷ []) d ≡ filter_map (event_for d) (entry ∷ [])
-addressed-one d (Event event dests) = ap (filter_map (event_for d)) (before-cons d (Event event dests) [])
-addressed-one d (Edu edu dests) = ap (filter_map (event_for d)) (before-cons d (Edu edu dests) [])
-addressed-one d (Close dest cause) = ap (filter_map (event_for d)) (before-cons d (Close dest cause) []) ∙ none (dest == d)
+-- what a list gives is what its single entry gives, where that gives nothing if it closes the outbox
+pub one_before : {Y : Type 0} (F : List Entry → Y) (d : ℕ) (entry : Entry) → (closes d entry ≡ true → F [] ≡ F (entry ∷ [])) → F (before_close d (entry ∷ [])) ≡ F (entry ∷ [])
+one_before F d entry nothing = ap F (before-cons d entry []) ∙ by (closes d entry) nothing
   where
-    none : (b : Bool) → filter_map (event_for d) (if b then [] else Close dest cause ∷ []) ≡ []
-    none true = refl
-    none false = refl
+    by : (b : Bool) → (b ≡ true → F [] ≡ F (entry ∷ [])) → F (if b then [] else entry ∷ []) ≡ F (entry ∷ [])
+    by true nothing = nothing refl
+    by false nothing = refl
+
+pub closing_event : (d : ℕ) (entry : Entry) → closes d entry ≡ true → None ≡ event_for d entry
+closing_event d (Event event dests) shut = absurd (cc)
+closing_event d (Edu edu dests) shut = refl
+closing_event d (Close dest cause) shut = refl
+
+pub closing_edu : (d : ℕ) (entry : Entry) → closes d entry ≡ true → None ≡ edu_for d entry
+closing_edu d (Event event dests) shut = refl
+closing_edu d (Edu edu dests) shut = absurd (cc)
+closing_edu d (Close dest cause) shut = refl
+
+pub addressed-one : (d : ℕ) (entry : Entry) → addressed (entry ∷ []) d ≡ filter_map (event_for d) (entry ∷ [])
+addressed-one d entry = one_before (filter_map (event_for d)) d entry (λ shut. ap (λ o. cons_option o []) (closing_event d entry shut))
 
 pub addressed_edus-one : (d : ℕ) (entry : Entry) → addressed_edus (entry ∷ []) d ≡ filter_map (edu_for d) (entry ∷ [])
-addressed_edus-one d (Event event dests) = ap (filter_map (edu_for d)) (before-cons d (Event event dests) [])
-addressed_edus-one d (Edu edu dests) = ap (filter_map (edu_for d)) (before-cons d (Edu edu dests) [])
-addressed_edus-one d (Close dest cause) = ap (filter_map (edu_for d)) (before-cons d (Close dest cause) []) ∙ none (dest == d)
-  where
-    none : (b : Bool) → filter_map (edu_for d) (if b then [] else Close dest cause ∷ []) ≡ []
-    none true = refl
-    none false = refl
+addressed_edus-one d entry = one_before (filter_map (edu_for d)) d entry (λ shut. ap (λ o. cons_option o []) (closing_edu d entry shut))
 
 no_event : (b : Bool) (cause : Cause) (rest : List Load) → filter_map event_in_load (cons_option (if b then end_of cause else None) rest) ≡ filter_map event_in_load rest
 no_event true Asked rest = refl

@@ -20,7 +20,7 @@ use Rattle.fed_journal.specs.Lane.{LaneState, place_after, reached, closed_by, w
 use Rattle.fed_journal.specs.Standing.{picked, what_stands, places_from}
 use Rattle.fed_journal.specs.JournalParts.{IsLane, AreLanes, IsJournal}
 use Rattle.fed_journal.specs.declared.journal.Journal.TheInside.{Inside}
-use Rattle.fed_journal.proofs.Entries.{before-cons, before-append, is_closed-more, is_closed-one, placed-more, loads-one, placed_within}
+use Rattle.fed_journal.proofs.Entries.{before-cons, one_before, closing_event, closing_edu, before-append, is_closed-more, is_closed-one, placed-more, loads-one, placed_within}
 use Rattle.fed_journal.proofs.Lanes.{chosen_change}
 
 -- where an entry stands from which something is picked
@@ -59,22 +59,10 @@ module _ {X : Type 0} (f : Entry → Option X) (d : ℕ) (entries : List Entry) 
           ∙ ap (λ zs. places_from f 0 (before_close d entries) ++ zs) (one (length entries))
 
 event_standing : (d : ℕ) (entry : Entry) (n : ℕ) → places_from (event_for d) n (before_close d (entry ∷ [])) ≡ standing (event_for d) n entry
-event_standing d (Event event dests) n = ap (places_from (event_for d) n) (before-cons d (Event event dests) [])
-event_standing d (Edu edu dests) n = ap (places_from (event_for d) n) (before-cons d (Edu edu dests) [])
-event_standing d (Close dest cause) n = ap (places_from (event_for d) n) (before-cons d (Close dest cause) []) ∙ none (dest == d)
-  where
-    none : (b : Bool) → places_from (event_for d) n (if b then [] else Close dest cause ∷ []) ≡ []
-    none true = refl
-    none false = refl
+event_standing d entry n = one_before (places_from (event_for d) n) d entry (λ shut. ap (λ o. if is_some o then n ∷ [] else []) (closing_event d entry shut))
 
 edu_standing : (d : ℕ) (entry : Entry) (n : ℕ) → places_from (edu_for d) n (before_close d (entry ∷ [])) ≡ standing (edu_for d) n entry
-edu_standing d (Event event dests) n = ap (places_from (edu_for d) n) (before-cons d (Event event dests) [])
-edu_standing d (Edu edu dests) n = ap (places_from (edu_for d) n) (before-cons d (Edu edu dests) [])
-edu_standing d (Close dest cause) n = ap (places_from (edu_for d) n) (before-cons d (Close dest cause) []) ∙ none (dest == d)
-  where
-    none : (b : Bool) → places_from (edu_for d) n (if b then [] else Close dest cause ∷ []) ≡ []
-    none true = refl
-    none false = refl
+edu_standing d entry n = one_before (places_from (edu_for d) n) d entry (λ shut. ap (λ o. if is_some o then n ∷ [] else []) (closing_edu d entry shut))
 
 -- a lane that gets these places and so many parcels, and is closed by that
 record Gets (es us : List ℕ) (count : ℕ) (closing : Bool) (old new : LaneState) : Type 0 where
