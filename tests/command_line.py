@@ -45,7 +45,7 @@ Usage: fed inbox [OPTIONS]
 
 Options:
       --name <N>       The name of the server whose inbox it is [default: b.example]
-      --servers <A,B>  The servers that it takes transactions from [default: a.example]
+      --servers <A,B>  The other servers, which it takes transactions from [default: a.example]
       --room <R>       The room that it knows [default: !r:a.example]
   -h, --help           Print help
 
@@ -54,6 +54,7 @@ Options:
 NOT_LISTED = '403 {"errcode":"M_FORBIDDEN","error":"server not listed"}\n'
 TAKEN = '200 {"pdus":{}}\n'
 FAILED = "fed: input or output failed\n"
+BAD_SERVERS = "fed: bad servers\n"
 
 
 def refused(*parts):
@@ -64,6 +65,11 @@ def refused(*parts):
 def empty(*origins):
     """A line of a transaction without events from each of the servers."""
     return "".join(f'{it} 1 {{"origin":"{it}","origin_server_ts":1,"pdus":[]}}\n' for it in origins)
+
+
+def named(count):
+    """So many servers, with a comma between."""
+    return ",".join(f"s{number}" for number in range(1, count + 1))
 
 
 def two_rooms():
@@ -79,7 +85,7 @@ def cases():
     """The words, standard input, standard output, standard error and the status."""
     sample, answers = (FED / "stdin").read_text(), (FED / "stdout").read_text()
     rooms, with_r, with_q = two_rooms()
-    others = ["inbox", "--name", "c.example", "--servers", "b.example,c.example,d.example"]
+    others = ["inbox", "--name", "c.example", "--servers", "d.example,b.example"]
     return [
         (["--help"], "", HELP, "", 0),
         (["-h"], "", HELP, "", 0),
@@ -98,7 +104,14 @@ def cases():
         ([], sample.rstrip("\n"), answers, "", 0),
         ([], "word\n", "", "fed: line 1: wrong words\n", 1),
         ([], empty("a.example", "x.example") + "\n" + empty("a.example"), TAKEN + NOT_LISTED, "fed: line 3: wrong words\n", 1),
-        (["inbox", "--servers", "b.example"], empty("b.example", "a.example"), NOT_LISTED + NOT_LISTED, "", 0),
+        (["inbox", "--servers", "c.example"], empty("b.example", "a.example"), NOT_LISTED + NOT_LISTED, "", 0),
+        (["inbox", "--servers", "b.example"], sample, "", BAD_SERVERS, 2),
+        (["inbox", "--servers", "a.example,a.example"], sample, "", BAD_SERVERS, 2),
+        (["inbox", "--servers", "a.example,"], sample, "", BAD_SERVERS, 2),
+        (["inbox", "--servers", "a_b"], sample, "", BAD_SERVERS, 2),
+        (["inbox", "--name", "b:"], sample, "", BAD_SERVERS, 2),
+        (["inbox", "--servers", named(64)], sample, "", BAD_SERVERS, 2),
+        (["inbox", "--servers", named(63)], empty("s63", "s64"), TAKEN + NOT_LISTED, "", 0),
         (others, empty("a.example", "b.example", "c.example", "d.example"), NOT_LISTED + TAKEN + NOT_LISTED + TAKEN, "", 0),
         ([], empty("x.example") * 100_000, NOT_LISTED * 100_000, "", 0),
         (["inbox"], rooms, with_r, "", 0),

@@ -4,3 +4,4 @@ pub mod LineLemmas
 pub mod Limit
 pub mod Reached
 pub mod Newlines
+mod Setups

@@ -1,8 +1,9 @@
 // Whose inbox a run answers for.
-ghost use Rattle.std.specs.Prelude.{◌≡◌, ◌≢◌, ◌∷◌, [], ◌++◌, None, All, map, string_bytes, IfOk, OnOk, IsErrOf};
+ghost use Rattle.std.specs.Prelude.{◌≡◌, All, map, string_bytes, bytes_eq, IfOk, OnOk, IsErrOf};
+ghost use Rattle.std.specs.List.{list_any};
 ghost use Rattle.std.specs.List.Sorted.{IsPermutation};
 ghost use Rattle.fed_dest.specs.ServerName.{IsServerName};
-ghost use Rattle.fed_app.specs.Servers.{AreServers};
+ghost use Rattle.fed_app.specs.Servers.{AreServers, with_own};
 ghost use Rattle.fed_app.specs.declared.setup.SetupFault.TheVariants.{Memory, BadServers};
 
 use fed_dest::{List, ListFault, NameFault, ServerName};
@@ -15,7 +16,7 @@ use thiserror::Error;
 pub struct InboxSetup {
     /// The name of the server.
     pub own: ServerName,
-    /// The servers that it takes transactions from, and perhaps itself.
+    /// The servers that it takes transactions from, but for itself.
     pub servers: List,
     /// The rooms that it knows.
     pub rooms: Vec<String>,
@@ -70,7 +71,7 @@ impl From<ListFault> for SetupFault {
 }
 
 impl InboxSetup {
-    /// The setup of the server `own`, whose list is made of itself and of `servers`.
+    /// The setup of the server `own`, whose list is made of `servers` and itself, where it is not among them.
     ///
     /// # Errors
     ///
@@ -83,14 +84,14 @@ impl InboxSetup {
         rooms: Vec<String>,
     ) -> Result<InboxSetup, SetupFault>
         ensures own { IfOk result (λ setup. setup.own ≡ own.now) }
-        ensures servers { IfOk result (λ setup. IsPermutation (own.now ∷ map string_bytes servers.now) setup.servers) }
+        ensures servers { IfOk result (λ setup. IsPermutation (with_own own.now (map string_bytes servers.now)) setup.servers) }
         ensures rooms { IfOk result (λ setup. setup.rooms.items ≡ rooms.items) }
-        ensures good { OnOk result (AreServers (own.now ∷ map string_bytes servers.now)) }
-        ensures bad { IsErrOf result BadServers → ¬ AreServers (own.now ∷ map string_bytes servers.now) }
+        ensures good { OnOk result (AreServers (with_own own.now (map string_bytes servers.now))) }
+        ensures bad { IsErrOf result BadServers → ¬ AreServers (with_own own.now (map string_bytes servers.now)) }
     {
         let own = ServerName::read(alloc, own)?;
-        let names = names_of(alloc, own.copy(alloc)?, servers)?;
-        let servers = List::new(names)?;
+        let names = names_of(alloc, servers)?;
+        let servers = List::new(and_own(alloc, names, &own)?)?;
         Ok(InboxSetup {
             own,
             servers,
@@ -99,20 +100,37 @@ impl InboxSetup {
     }
 }
 
-// The names that texts are, behind a first one.
-fn names_of(
-    alloc: Global,
-    first: ServerName,
-    servers: &[String],
-) -> Result<Vec<ServerName>, SetupFault>
-    ensures names { IfOk result (λ names. names.items ≡ first ∷ map string_bytes servers.now) }
+// The names that texts are.
+fn names_of(alloc: Global, servers: &[String]) -> Result<Vec<ServerName>, SetupFault>
+    ensures names { IfOk result (λ names. names.items ≡ map string_bytes servers.now) }
     ensures good { OnOk result (All IsServerName (map string_bytes servers.now)) }
     ensures bad { IsErrOf result BadServers → ¬ All IsServerName (map string_bytes servers.now) }
 {
     let mut names = Vec::new(alloc);
-    names.push(first)?;
     for server in servers {
         names.push(ServerName::read(alloc, server)?)?;
     }
     Ok(names)
+}
+
+// The names with the own one too, where it is not among them.
+fn and_own(
+    alloc: Global,
+    mut names: Vec<ServerName>,
+    own: &ServerName,
+) -> Result<Vec<ServerName>, NoMemory>
+    ensures { IfOk result (λ all. all.items ≡ with_own own.now names.items) }
+{
+    if is_named(&names, own) {
+        return Ok(names);
+    }
+    names.push(own.copy(alloc)?)?;
+    Ok(names)
+}
+
+// Whether a name is among these.
+fn is_named(names: &[ServerName], own: &ServerName) -> bool
+    ensures { result ≡ list_any (λ name. bytes_eq name own.now) names.now }
+{
+    names.iter().any(|name| name.as_str() == own.as_str())
 }

@@ -6,7 +6,8 @@ use Rattle.std.proofs.lemmas.List.Elements.{filter_map-append}
 use Rattle.fed_journal.specs.declared.parcel.Parcel.{Parcel}
 use Rattle.fed_journal.specs.Journal.{numbered}
 use Rattle.fed_outbox.specs.Outbox.{OutboxState, accepted, accepted_edus, accepted_count, expected}
-use Rattle.fed_outbox.specs.Runs.{Call, after_call, after, accepted_by, accepted_parcels, event_in, edu_in, events_of, edus_of, places_from}
+use Rattle.fed_journal.specs.Loads.{event_in_load, edu_in_load}
+use Rattle.fed_outbox.specs.Runs.{Call, after_call, after, accepted_by, accepted_parcels, events_of, edus_of, places_from}
 use Rattle.fed_outbox.proofs.Steps.{Same, Adds, Does, call_does, same_expected}
 
 -- from one outbox to another these parcels were accepted
@@ -40,9 +41,9 @@ adds_grows o mid next parcel parcels adds more =
     let count : accepted_count mid ≡ accepted_count o + 1 = (let number = adds.number in omega arith) in
     record {
       events = more.events ∙ ap (λ l. l ++ events_of parcels) adds.events ∙ append_assoc (accepted o) (events_of (parcel ∷ [])) (events_of parcels)
-          ∙ ap (λ l. accepted o ++ l) (sym (filter_map-append (λ parcel. event_in parcel.load) (parcel ∷ []) parcels));
+          ∙ ap (λ l. accepted o ++ l) (sym (filter_map-append (λ parcel. event_in_load parcel.load) (parcel ∷ []) parcels));
       edus = more.edus ∙ ap (λ l. l ++ edus_of parcels) adds.edus ∙ append_assoc (accepted_edus o) (edus_of (parcel ∷ [])) (edus_of parcels)
-          ∙ ap (λ l. accepted_edus o ++ l) (sym (filter_map-append (λ parcel. edu_in parcel.load) (parcel ∷ []) parcels));
+          ∙ ap (λ l. accepted_edus o ++ l) (sym (filter_map-append (λ parcel. edu_in_load parcel.load) (parcel ∷ []) parcels));
       number = (let first = adds.number in let rest = more.number in omega arith);
       dest = more.dest ∙ adds.dest;
       places = ap (λ p. p ∷ map (λ parcel. parcel.place) parcels) adds.place

@@ -5,9 +5,8 @@ use Rattle.std.specs.List.{filter_map}
 use Rattle.serde_json.specs.Data.{Data}
 use Rattle.fed_event.specs.Checked.{CheckedEvent}
 use Rattle.fed_journal.specs.Place.{PlaceValue}
-use Rattle.fed_journal.specs.declared.parcel.Load.{Load}
-use Rattle.fed_journal.specs.declared.parcel.Load.TheVariants.{Event, Edu, End}
 use Rattle.fed_journal.specs.declared.parcel.Parcel.{Parcel}
+use Rattle.fed_journal.specs.Loads.{event_in_load, edu_in_load}
 use Rattle.fed_outbox.specs.Outbox.{OutboxState, fits, with_load, cut, failed, settle, has_number}
 
 -- a parcel comes, and memory is found for it or not; a transaction is cut now; the sending of transaction n failed now; transaction n is
@@ -43,22 +42,12 @@ abbrev pub accepted_parcels : OutboxState → List Call → List Parcel
 accepted_parcels o [] = []
 accepted_parcels o (call ∷ calls) = option_to_list (accepted_by o call) ++ accepted_parcels (after_call o call) calls
 
-abbrev pub event_in : Load → Option CheckedEvent
-event_in (Event event) = Some event
-event_in (Edu edu) = None
-event_in End = None
-
-abbrev pub edu_in : Load → Option Data
-edu_in (Event event) = None
-edu_in (Edu edu) = Some edu
-edu_in End = None
-
 -- the events, and the EDUs, of parcels, in order
 abbrev pub events_of : List Parcel → List CheckedEvent
-events_of parcels = filter_map (λ parcel. event_in parcel.load) parcels
+events_of parcels = filter_map (λ parcel. event_in_load parcel.load) parcels
 
 abbrev pub edus_of : List Parcel → List Data
-edus_of parcels = filter_map (λ parcel. edu_in parcel.load) parcels
+edus_of parcels = filter_map (λ parcel. edu_in_load parcel.load) parcels
 
 -- so many places of destination d, in order and without a gap, from number n on
 abbrev pub places_from : ℕ → ℕ → ℕ → List PlaceValue

@@ -116,7 +116,7 @@ impl Outbox {
         !self.has_end && self.is_next(place)
     }
 
-    /// Whether the place is this destination's and comes next.
+    // Whether the place is this destination's and comes next.
     fn is_next(&self, place: Place) -> bool
         ensures next { result ≡ is_next self.now place }
         ensures within { result ≡ true → expected self.now ≤ 2 ^ 53 + 1 }
@@ -184,7 +184,7 @@ impl Outbox {
         }
     }
 
-    /// The same, but for lending the transaction: whether one was made.
+    // The same, but for lending the transaction: whether one was made.
     fn cut_next(&mut self, now: u64) -> bool
         requires { now ≤ 9007199254740991 }
         ensures cut { self.new ≡ cut self.old now }
@@ -206,7 +206,7 @@ impl Outbox {
         true
     }
 
-    /// Whether none is unanswered, and something waits.
+    // Whether none is unanswered, and something waits.
     fn can_cut(&self) -> bool
         ensures { result ≡ can_cut self.now }
     {
@@ -243,7 +243,7 @@ impl Outbox {
         self.due_at
     }
 
-    /// Whether the transaction of this number is the unanswered one.
+    // Whether the transaction of this number is the unanswered one.
     fn has_number(&self, n: u64) -> bool
         ensures { result ≡ has_number self.now.unanswered n }
     {
@@ -321,7 +321,7 @@ impl Outbox {
     }
 }
 
-/// So many items, from a place on.
+// So many items, from a place on.
 fn part<T>(items: &[T], from: usize, count: usize) -> &[T]
     requires { from + count ≤ length items.now }
     ensures { result.now ≡ take count (drop from items.now) }
@@ -329,7 +329,7 @@ fn part<T>(items: &[T], from: usize, count: usize) -> &[T]
     &items[from..from + count]
 }
 
-/// How long to wait after so many failures in a row, in milliseconds.
+// How long to wait after so many failures in a row, in milliseconds.
 fn delay(failures: u32) -> u64
     requires { failures ≤ 13 }
     ensures value { result ≡ delay failures }

@@ -7,3 +7,6 @@ returns-in_err-from_str-clause-run g c = no_memory (g.R.Read.remaining c.args.re
 
 pub returns-in_err-input-clause-run : goal.returns-in_err-input-clause-run
 returns-in_err-input-clause-run g c = no_memory (g.R.Read.remaining c.args.reader) (first_inbox c.args.setup) (g.W.Write.contents c.args.writer.now) c.from_residual-in_err-input.result c.from_residual-in_err-input.ensures.1
+
+pub returns-in_err-inbox-clause-run : goal.returns-in_err-inbox-clause-run
+returns-in_err-inbox-clause-run g c = no_memory (g.R.Read.remaining c.args.reader) (first_inbox c.args.setup) (g.W.Write.contents c.args.writer.now) c.from_residual-in_err-inbox.result c.from_residual-in_err-inbox.ensures.1
