@@ -85,7 +85,7 @@ def cases():
     """The words, standard input, standard output, standard error and the status."""
     sample, answers = (FED / "stdin").read_text(), (FED / "stdout").read_text()
     rooms, with_r, with_q = two_rooms()
-    others = ["inbox", "--name", "c.example", "--servers", "d.example,b.example"]
+    others = ["inbox", "--name", "c.example", "--servers", "d.example,c.example,b.example"]
     return [
         (["--help"], "", HELP, "", 0),
         (["-h"], "", HELP, "", 0),
@@ -105,7 +105,8 @@ def cases():
         ([], "word\n", "", "fed: line 1: wrong words\n", 1),
         ([], empty("a.example", "x.example") + "\n" + empty("a.example"), TAKEN + NOT_LISTED, "fed: line 3: wrong words\n", 1),
         (["inbox", "--servers", "c.example"], empty("b.example", "a.example"), NOT_LISTED + NOT_LISTED, "", 0),
-        (["inbox", "--servers", "b.example"], sample, "", BAD_SERVERS, 2),
+        (["inbox", "--servers", "b.example"], empty("b.example", "a.example"), NOT_LISTED + NOT_LISTED, "", 0),
+        (["inbox", "--name", "a.example"], empty("a.example"), NOT_LISTED, "", 0),
         (["inbox", "--servers", "a.example,a.example"], sample, "", BAD_SERVERS, 2),
         (["inbox", "--servers", "a.example,"], sample, "", BAD_SERVERS, 2),
         (["inbox", "--servers", "a_b"], sample, "", BAD_SERVERS, 2),

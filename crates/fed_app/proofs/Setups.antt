@@ -1,5 +1,5 @@
 -- Texts that make a list of servers, or none.
-use Rattle.std.proofs.Common.{◌≡◌, ◌⊎◌, inl, inr, ℕ, zero, suc, Bool, true, false, ◌||◌, cond, List, [], ◌∷◌, ◌++◌, map, All, bytes_eq, subst, get_or, Option, Some, None, IfSome, Result, Ok, Err, IsErrOf, refl}
+use Rattle.std.proofs.Common.{◌≡◌, ◌⊎◌, inl, inr, ℕ, zero, suc, true, false, ◌||◌, cond, List, [], ◌∷◌, ◌++◌, map, All, bytes_eq, subst, get_or, Option, Some, None, IfSome, Result, Ok, Err, IsErrOf, refl}
 use Rattle.std.specs.Prelude.{IsErrAnd}
 use Rattle.std.specs.List.{list_any}
 use Rattle.std.proofs.lemmas.Bool.{cases_Bool}
@@ -9,7 +9,7 @@ use Rattle.fed_app.specs.Servers.{with_own}
 use Rattle.fed_dest.specs.declared.server_name.NameFault.{NameFault}
 use Rattle.fed_dest.specs.declared.server_name.NameFault.TheVariants as name
 use Rattle.fed_app.specs.declared.setup.SetupFault.{SetupFault}
-use Rattle.fed_app.specs.declared.setup.SetupFault.TheVariants.{Memory, BadServers}
+use Rattle.fed_app.specs.declared.setup.SetupFault.TheVariants.{BadServers}
 use Rattle.fed_app.specs.Servers.{IsFaultOfName}
 
 pub at_map : {X Y : Type 0} (f : X → Y) (xs : List X) (i : ℕ) (d : X) → get_or (map f xs) i (f d) ≡ f (get_or xs i d)
