@@ -5,7 +5,7 @@ use anyhow::Result;
 use clap::error::ErrorKind;
 use clap::{Arg, ArgMatches, Command};
 use fed_app::{InboxSetup, RunFault, SetupFault, inbox_run};
-use std::alloc::{AllocError, Global};
+use std::alloc::{AllocError, AllocFailed, Global};
 use std::io;
 use std::process::ExitCode;
 
@@ -49,6 +49,12 @@ impl From<clap::Error> for Stop {
 
 impl From<AllocError> for Stop {
     fn from(_error: AllocError) -> Stop {
+        Stop::Fault(RunFault::Memory)
+    }
+}
+
+impl<T: Drop> From<AllocFailed<T>> for Stop {
+    fn from(_error: AllocFailed<T>) -> Stop {
         Stop::Fault(RunFault::Memory)
     }
 }

@@ -30,7 +30,10 @@ impl fmt::Display for Counts {
             bytes,
             settled,
         } = self;
-        write!(f, "addressed {addressed}, transactions {transactions}, bytes {bytes}, settled {settled}")
+        write!(
+            f,
+            "addressed {addressed}, transactions {transactions}, bytes {bytes}, settled {settled}"
+        )
     }
 }
 
@@ -98,7 +101,9 @@ fn offer(
 
 // A small message.
 fn event(alloc: Global, number: u64) -> Result<Checked, Stop> {
-    let text = format!(in alloc; "{{\"auth_events\":[],\"content\":{{\"body\":\"message {number}\",\"msgtype\":\"m.text\"}},\"depth\":{number},\"hashes\":{{\"sha256\":\"\"}},\"origin_server_ts\":{number},\"prev_events\":[],\"room_id\":\"!r:a.example\",\"sender\":\"@u:a.example\",\"signatures\":{{\"a.example\":{{\"standin:1\":\"{SIGNATURE}\"}}}},\"type\":\"m.room.message\"}}")?;
+    let text = format!(in alloc;
+        "{{\"auth_events\":[],\"content\":{{\"body\":\"message {number}\",\"msgtype\":\"m.text\"}},\"depth\":{number},\"hashes\":{{\"sha256\":\"\"}},\"origin_server_ts\":{number},\"prev_events\":[],\"room_id\":\"!r:a.example\",\"sender\":\"@u:a.example\",\"signatures\":{{\"a.example\":{{\"standin:1\":\"{SIGNATURE}\"}}}},\"type\":\"m.room.message\"}}"
+    )?;
     let keys = Trusting::new(String::from_str(alloc, ORIGIN)?);
     let event = match Pdu::read(alloc, text.as_bytes()) {
         Ok(event) => event,
@@ -112,7 +117,8 @@ fn event(alloc: Global, number: u64) -> Result<Checked, Stop> {
     }
 }
 
-const SIGNATURE: &str = "AAAAAAAAAAAAAAAAAAAAAAAAAAAAAAAAAAAAAAAAAAAAAAAAAAAAAAAAAAAAAAAAAAAAAAAAAAAAAAAAAAAAAA";
+const SIGNATURE: &str =
+    "AAAAAAAAAAAAAAAAAAAAAAAAAAAAAAAAAAAAAAAAAAAAAAAAAAAAAAAAAAAAAAAAAAAAAAAAAAAAAAAAAAAAAA";
 
 // All destinations.
 fn everyone(alloc: Global) -> Result<ServerSet, Stop> {

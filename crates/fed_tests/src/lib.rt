@@ -4,6 +4,7 @@
 //! - `events`: ids and faults as texts
 //! - `transactions`: bodies of the greatest size, and names and faults as texts
 //! - `inboxes`: a body that is too large, and the reply for want of memory
+//! - `servers`: copies of lists and sets of servers
 //! - `runs`: runs over readers and writers that give and take little, fail, or never end
 #![tactic(auto)]
 
@@ -13,5 +14,7 @@ mod events;
 mod inboxes;
 #[cfg(test)]
 mod runs;
+#[cfg(test)]
+mod servers;
 #[cfg(test)]
 mod transactions;
