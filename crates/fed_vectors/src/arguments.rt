@@ -1,9 +1,14 @@
 // The arguments of a call.
+ghost use Rattle.std.specs.Prelude.{◌≤◌, IfOk};
 
 use crate::answer::Stop;
 use crate::key_ring::KeyRing;
+use fed_dest::{MAX_SERVERS, ServerIndex, ServerSet};
 use fed_json::{Items, Json, JsonRef, Members, canonical};
 use std::alloc::Global;
+
+// The last moment that an event or a transaction can have.
+const LAST_MOMENT: u64 = (1 << 53) - 1;
 
 /// The members of an object that a line gives: the call itself, or an object in one of its lists.
 #[derive(Clone, Copy)]
@@ -90,6 +95,57 @@ impl<'a> Arguments<'a> {
         }
     }
 
+    /// A list of whole numbers that are not negative.
+    pub(crate) fn wholes(self, name: &str) -> Result<Vec<u64>, Stop> {
+        let mut wholes = Vec::new(self.alloc);
+        for item in self.items(name)? {
+            match item.whole() {
+                Some(whole) if whole >= 0 => wholes.push(whole as u64)?,
+                _ => return Err(self.wrong_kind(name)),
+            }
+        }
+        Ok(wholes)
+    }
+
+    /// A moment, in milliseconds since the Unix epoch.
+    pub(crate) fn moment(self, name: &str) -> Result<u64, Stop>
+        ensures { IfOk result (λ moment. moment ≤ 9007199254740991) }
+    {
+        let moment = self.whole(name)?;
+        if moment > LAST_MOMENT {
+            return Err(self.wrong_kind(name));
+        }
+        Ok(moment)
+    }
+
+    /// The place of a server in a list of servers.
+    pub(crate) fn server(self, name: &str) -> Result<ServerIndex, Stop> {
+        match server_in(self.get(name)?) {
+            Some(server) => Ok(server),
+            None => Err(self.wrong_kind(name)),
+        }
+    }
+
+    /// Places of servers.
+    pub(crate) fn servers(self, name: &str) -> Result<Vec<ServerIndex>, Stop> {
+        let mut servers = Vec::new(self.alloc);
+        for item in self.items(name)? {
+            match server_in(item) {
+                Some(server) => servers.push(server)?,
+                None => return Err(self.wrong_kind(name)),
+            }
+        }
+        Ok(servers)
+    }
+
+    /// Places of servers, which rise.
+    pub(crate) fn server_set(self, name: &str) -> Result<ServerSet, Stop> {
+        match ServerSet::rising(self.servers(name)?) {
+            Some(servers) => Ok(servers),
+            None => Err(self.wrong_kind(name)),
+        }
+    }
+
     /// Whether an argument is true, which is false where it is missing.
     pub(crate) fn is_set(self, name: &str) -> Result<bool, Stop> {
         match self.find(name) {
@@ -143,6 +199,15 @@ impl<'a> Arguments<'a> {
     pub(crate) fn wrong_kind(self, name: &str) -> Stop {
         wrong_kind(self.alloc, name)
     }
+}
+
+// The place of a server that a value is.
+fn server_in(value: JsonRef<'_>) -> Option<ServerIndex> {
+    let place = usize::try_from(value.whole()?).ok()?;
+    if place >= MAX_SERVERS {
+        return None;
+    }
+    Some(ServerIndex::new(place))
 }
 
 // The key of the one member.

@@ -94,8 +94,8 @@ pub(crate) fn wrong_event(alloc: Global, place: &str, stop: Stop) -> Stop {
     }
 }
 
-// The events of `graph`, stored in their order.
-fn graph(call: Arguments<'_>, keys: &KeyRing) -> Result<Graph, Stop> {
+/// The events of `graph`, stored in their order.
+pub(crate) fn graph(call: Arguments<'_>, keys: &KeyRing) -> Result<Graph, Stop> {
     let mut graph = Graph::new(call.alloc);
     for item in call.items("graph")? {
         let row = Arguments::of(call.alloc, item, "graph")?;
@@ -123,8 +123,8 @@ fn store(row: Arguments<'_>, graph: &mut Graph, keys: &KeyRing) -> Result<(), St
     Ok(())
 }
 
-// The state that the events at the places of `state` make, each laid over those before.
-fn state(call: Arguments<'_>, graph: &Graph) -> Result<State, Stop> {
+/// The state that the events at the places of `state` make, each laid over those before.
+pub(crate) fn state(call: Arguments<'_>, graph: &Graph) -> Result<State, Stop> {
     let mut state = State::new(call.alloc);
     for item in call.items("state")? {
         let Some((event, state_key)) = state_event_at(graph, item) else {

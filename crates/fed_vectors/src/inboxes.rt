@@ -4,7 +4,7 @@ use crate::answer::{Answer, Stop};
 use crate::arguments::Arguments;
 use crate::key_ring::{KeyRing, Request};
 use crate::made::{List, Object, copy, number, taken_texts, text_of_bytes};
-use fed_app::{InboxSetup, inbox_run};
+use fed_app::{InboxSetup, SetupFault, inbox_run};
 use fed_event::Checked;
 use fed_inbox::{Inbox, Reply};
 use fed_json::Json;
@@ -12,11 +12,25 @@ use std::alloc::Global;
 
 /// What an inbox answers to the requests, and what it took.
 pub(crate) fn inbox(call: Arguments<'_>) -> Answer {
-    let own = call.string("own")?;
-    let servers = call.strings("servers")?;
-    let mut inbox = Inbox::new(call.alloc, own, servers, call.strings("rooms")?)?;
+    let InboxSetup {
+        own,
+        servers,
+        rooms,
+    } = setup(call)?;
+    let mut inbox = Inbox::new(call.alloc, own, servers, rooms)?;
     let answers = answers(call, &mut inbox)?;
     with_taken(call, answers, &inbox)
+}
+
+// The server `own`, the servers that it takes from, and its rooms.
+fn setup(call: Arguments<'_>) -> Result<InboxSetup, Stop> {
+    let others = call.strings("servers")?;
+    let rooms = call.strings("rooms")?;
+    match InboxSetup::read(call.alloc, call.text("own")?, &others, rooms) {
+        Ok(setup) => Ok(setup),
+        Err(SetupFault::Memory) => Err(Stop::Memory),
+        Err(fault) => Err(Stop::error(format!(in call.alloc; "{fault}"))),
+    }
 }
 
 // The answers, and what was taken from each server.
@@ -82,11 +96,7 @@ fn values(alloc: Global, events: &[Checked]) -> Answer {
 
 pub(crate) fn run(call: Arguments<'_>) -> Answer {
     let alloc = call.alloc;
-    let setup = InboxSetup {
-        own: call.string("own")?,
-        servers: call.strings("servers")?,
-        rooms: call.strings("rooms")?,
-    };
+    let setup = setup(call)?;
     let input = call.bytes()?;
     let mut output = Vec::new(alloc);
     let end = match inbox_run(alloc, input.as_slice(), &mut output, setup) {

@@ -3,7 +3,10 @@
 use crate::answer::{Answer, Stop};
 use crate::arguments::Arguments;
 use crate::made::Object;
-use crate::{events, graphs, inboxes, signatures, table_rooms, transactions, values};
+use crate::{
+    events, graphs, inboxes, journals, outboxes, servers, signatures, table_rooms, transactions,
+    values,
+};
 use fed_json::{Json, MAX_LEVELS, canonical, read_within};
 use std::alloc::Global;
 
@@ -69,6 +72,19 @@ fn answer_later_call(name: &str, call: Arguments<'_>) -> Answer {
         "auth_state" => graphs::auth_state(call),
         "selection" => graphs::selection(call),
         "table_room" => table_rooms::table_room(call),
+        _ => answer_sending_call(name, call),
+    }
+}
+
+// The calls on servers and on what is sent to them.
+fn answer_sending_call(name: &str, call: Arguments<'_>) -> Answer {
+    match name {
+        "server_name" => servers::server_name(call),
+        "servers" => servers::servers(call),
+        "destinations" => servers::destinations(call),
+        "journal" => journals::journal(call),
+        "outbox" => outboxes::outbox(call),
+        "write" => transactions::write(call),
         _ => Err(Stop::wrong(String::from_str(call.alloc, "unknown call"))),
     }
 }

@@ -1,7 +1,7 @@
 // The values that calls give.
 
 use crate::answer::{Answer, Stop};
-use fed_event::EventId;
+use fed_event::{Checked, EventId};
 use fed_inbox::Taken;
 use fed_json::{Json, JsonRef, MAX_LEVELS, read_within};
 use std::alloc::Global;
@@ -69,6 +69,15 @@ pub(crate) fn ids(alloc: Global, ids: &[EventId]) -> Answer {
 /// Bytes in hex.
 pub(crate) fn hex_of(alloc: Global, bytes: &[u8]) -> Answer {
     Ok(Json::from(hex::encode(alloc, bytes)?))
+}
+
+/// The list of the ids of events.
+pub(crate) fn event_ids(alloc: Global, events: &[Checked]) -> Answer {
+    let mut list = List::new(alloc);
+    for event in events {
+        list = list.with(text(alloc, event.event().id().as_str()));
+    }
+    list.into_answer()
 }
 
 /// The list of these values.

@@ -2,8 +2,10 @@
 //! which calls there are. It has no logic of its own: it reads arguments, makes the call and prints what the call gives.
 //!
 //! - `lines`: from the line of a call to the line of its answer
-//! - `values`, `events`, `signatures`, `transactions`, `inboxes`, `graphs`, `table_rooms`: the calls, floor by floor
+//! - `values`, `events`, `signatures`, `transactions`, `inboxes`, `graphs`, `table_rooms`, `servers`, `journals`, `outboxes`: the calls,
+//!   floor by floor
 //! - `room_steps`: the operations on a room
+//! - `offers`: the events and the EDUs that a call gives
 //! - `arguments`, `key_ring`: what a call is given
 //! - `verdicts`, `made`, `answer`: what a call gives
 #![tactic(auto)]
@@ -13,10 +15,14 @@ mod arguments;
 mod events;
 mod graphs;
 mod inboxes;
+mod journals;
 mod key_ring;
 mod lines;
 mod made;
+mod offers;
+mod outboxes;
 mod room_steps;
+mod servers;
 mod signatures;
 mod table_rooms;
 mod transactions;

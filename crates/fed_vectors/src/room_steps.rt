@@ -12,9 +12,6 @@ use fed_json::Json;
 use fed_room_contract::{Draft, Receipt, Refusal, RoomEngine, State, advance_all};
 use std::alloc::Global;
 
-// The last moment that an event can have.
-const LAST_MOMENT: u64 = (1 << 53) - 1;
-
 /// Makes the operation that an object names, and tells its answer.
 pub(crate) fn step<R: RoomEngine>(
     name: &str,
@@ -105,10 +102,7 @@ fn draft(operation: Arguments<'_>, name: &str) -> Result<Draft, Stop> {
         Some(_) => Some(parts.string("state_key")?),
         None => None,
     };
-    let at_ms = parts.whole("at_ms")?;
-    if at_ms > LAST_MOMENT {
-        return Err(parts.wrong_kind("at_ms"));
-    }
+    let at_ms = parts.moment("at_ms")?;
     Ok(Draft {
         room: parts.string("room")?,
         sender: parts.string("sender")?,

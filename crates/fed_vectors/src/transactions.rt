@@ -3,7 +3,9 @@
 use crate::answer::{Answer, Stop};
 use crate::arguments::Arguments;
 use crate::made::{Object, list_of, number, text_of_bytes};
+use crate::offers::Offers;
 use fed_json::{Json, JsonRef};
+use fed_outbox::Transaction;
 use fed_txn::{TransactionIn, Verdicts, write_reply};
 
 pub(crate) fn transaction(call: Arguments<'_>) -> Answer {
@@ -23,6 +25,22 @@ pub(crate) fn transaction(call: Arguments<'_>) -> Answer {
         .with("origin", Ok(Json::from(origin)))
         .with("pdus", list_of(alloc, &pdus))
         .into_answer()
+}
+
+pub(crate) fn write(call: Arguments<'_>) -> Answer {
+    write_of(call, &Offers::of(call)?)
+}
+
+// The body of the transaction that has all that is offered.
+fn write_of(call: Arguments<'_>, offers: &Offers) -> Answer {
+    let transaction = Transaction {
+        number: call.whole("number")?,
+        at_ms: call.moment("at_ms")?,
+        pdus: offers.events(),
+        edus: offers.edus(),
+    };
+    let body = fed_txn::write(call.alloc, &transaction, call.text("origin")?)?;
+    text_of_bytes(call.alloc, &body)
 }
 
 pub(crate) fn reply(call: Arguments<'_>) -> Answer {
