@@ -1,0 +1,31 @@
+pub mod Runs
+pub mod Quotes
+pub mod Parameters
+pub mod Signatures
+pub mod Founds
+pub mod ParameterLists
+pub mod Headers
+mod Windows
+mod Counted
+mod Lines
+mod Parts
+mod Walks
+mod Copies
+mod Bodies
+mod Values
+mod OnlyValues
+mod HeadsFound
+mod Finds
+mod Messages
+mod Settled
+mod Feeds
+mod HeadLemmas
+mod ChunkLemmas
+mod TextLemmas
+mod Cutting
+pub mod WrittenHeaders
+pub mod SignedTexts
+pub mod WrittenTexts
+pub mod Phrases
+pub mod ReplyTexts
+pub mod SentTexts

@@ -1,0 +1,68 @@
+-- What is signed for a request (Matrix, Server-Server API, "Request Authentication"), and the request with its signature.
+use Rattle.std.specs.Prelude.{◌<◌, ◌≤◌, IsUtf8, ℕ, List, [], ◌∷◌, Option, Some, option_and_then, codes, decimal, length}
+use Rattle.serde_json.specs.Data.{Data, string, object, no_members, member}
+use Rattle.fed_json.specs.CanonicalText.{canonical_text}
+use Rattle.httparse.specs.Grammar.{IsToken, AllPass, is_uri_byte}
+use Rattle.fed_http.specs.Framing.{values_of, only_of, if_text}
+use Rattle.fed_http.specs.Limits.{max_body, max_head}
+use Rattle.fed_http.specs.Writing.{request_bytes, IsWritableField}
+use Rattle.fed_http.specs.Message.{RequestValue}
+use Rattle.fed_http.specs.XMatrix.{XMatrixValue}
+use Rattle.fed_http.specs.WrittenHeaders.{header_text}
+
+-- a request with a body: its method, its target as it is written, who sends it to whom, and the value of its body
+pub record Asked : Type 0 where
+  pub method : List ℕ
+  pub target : List ℕ
+  pub origin : List ℕ
+  pub destination : List ℕ
+  pub content : Data
+
+-- `{"content":..,"destination":..,"method":..,"origin":..,"uri":..}`
+abbrev pub signed_value : Asked → Data
+signed_value asked =
+    object (member (codes "content") asked.content
+    (member (codes "destination") (string asked.destination)
+    (member (codes "method") (string asked.method)
+    (member (codes "origin") (string asked.origin)
+    (member (codes "uri") (string asked.target) no_members)))))
+
+abbrev pub signed_text : Asked → List ℕ
+signed_text asked = canonical_text (signed_value asked)
+
+-- the server that a request is for: what its one field Host says (RFC 9110, section 7.2)
+abbrev pub host_of : RequestValue → Option (List ℕ)
+host_of request = option_and_then if_text (only_of (values_of (codes "host") request.fields))
+
+-- the header of a request that is signed by the sender's key of this name
+abbrev pub header_of : Asked → List ℕ → (List ℕ → List ℕ) → XMatrixValue
+header_of asked key sign = record { origin = asked.origin; destination = Some asked.destination; key = key; signature = sign (signed_text asked) }
+
+-- the fields of a request with a body of so many bytes
+abbrev pub sent_fields : List ℕ → List ℕ → ℕ → List (List ℕ × List ℕ)
+sent_fields host authorization count =
+    (codes "Host", host)
+    ∷ (codes "Authorization", authorization)
+    ∷ (codes "Content-Type", codes "application/json")
+    ∷ (codes "Content-Length", decimal count)
+    ∷ (codes "Connection", codes "close")
+    ∷ []
+
+-- the request as it is sent
+abbrev pub request_of : Asked → List ℕ → (List ℕ → List ℕ) → RequestValue
+request_of asked key sign = record {
+  method = asked.method;
+  target = asked.target;
+  fields = sent_fields asked.destination (header_text (header_of asked key sign)) (length (canonical_text asked.content));
+  body = canonical_text asked.content;
+}
+
+-- the request is of the grammar (RFC 9112, section 3) and within the limits
+pub record IsSendable (asked : Asked) (key : List ℕ) (sign : List ℕ → List ℕ) : Type 0 where
+  pub method : IsToken asked.method
+  pub target : (0 < length asked.target) × AllPass is_uri_byte asked.target
+  pub target_text : IsUtf8 asked.target
+  pub host : IsWritableField (codes "Host", asked.destination)
+  pub authorization : IsWritableField (codes "Authorization", header_text (header_of asked key sign))
+  pub head_fits : length (request_bytes (record (request_of asked key sign) { body = [] })) ≤ max_head
+  pub body_fits : length (canonical_text asked.content) ≤ max_body

@@ -1,0 +1,42 @@
+// What holds of all messages, and of all their texts.
+ghost use Rattle.std.specs.Prelude.{◌≡◌, ◌≢◌, ℕ, List, ◌++◌};
+ghost use Rattle.std.specs.List.{flat_map};
+ghost use Rattle.fed_http.specs.Text.{IsText, HasNoText};
+ghost use Rattle.fed_http.specs.Reader.{Reading};
+ghost use Rattle.fed_http.specs.Streams.{GivesInPieces};
+ghost use Rattle.fed_http.specs.Faults.{IsFault, IsBadLength};
+ghost use Rattle.fed_http.specs.Waiting.{IsWaiting};
+ghost use Rattle.fed_http.specs.declared.fault.HttpFault.{HttpFault};
+ghost use Rattle.fed_http.specs.declared.fault.HttpFault.TheVariants.{Memory, BadLength};
+ghost use Rattle.fed_http.specs.declared.message.Kind.{Kind};
+ghost use Rattle.fed_http.specs.declared.message.Message.{Message};
+
+/// Bytes begin with the text of one message at most: two texts at their front are one text of one message.
+pub fn texts_are_read_in_one_way()
+    ensures { (kind : Kind) (m n : Message) (bytes text other rest after : List ℕ) → IsText kind m text → IsText kind n other
+        → bytes ≡ text ++ rest → bytes ≡ other ++ after → (m ≡ n) × (text ≡ other) }
+{}
+
+/// Where a fault holds of bytes, no bytes can follow that make a message of them: no fault is told that another cutting would not tell.
+pub fn faults_are_final()
+    ensures { (kind : Kind) (bytes : List ℕ) (fault : HttpFault) → fault ≢ Memory → IsFault kind bytes fault
+        → (more : List ℕ) → HasNoText kind (bytes ++ more) }
+{}
+
+/// Where a reader waits, no message is there.
+pub fn who_waits_has_no_message()
+    ensures { (kind : Kind) (bytes : List ℕ) → IsWaiting kind bytes → HasNoText kind bytes }
+{}
+
+/// Where a head does not say in one way how long its body is, no other fault holds, and no reader waits for more.
+pub fn a_bad_length_is_nothing_else()
+    ensures fault { (kind : Kind) (bytes : List ℕ) (fault : HttpFault) → IsBadLength kind bytes → fault ≢ Memory → IsFault kind bytes fault → fault ≡ BadLength }
+    ensures waiting { (kind : Kind) (bytes : List ℕ) → IsBadLength kind bytes → IsWaiting kind bytes → ⊥ }
+{}
+
+/// What a reader gives does not depend on how its stream is cut: of two cuttings of the same bytes, in which it waits until it gives a
+/// message, both give the same message, and at the same place.
+pub fn cutting_does_not_matter()
+    ensures { (old : Reading) (pieces others : List (List ℕ)) (m n : Message) (place other : ℕ) → flat_map (λ piece. piece) pieces ≡ flat_map (λ piece. piece) others
+        → GivesInPieces m old pieces place → GivesInPieces n old others other → (m ≡ n) × (place ≡ other) }
+{}

@@ -1,0 +1,71 @@
+//! Messages of HTTP/1.1 between Matrix servers (RFC 9112): what they are, how they are read from a stream of pieces, how they are signed
+//! and written.
+//!
+//! A message is a head, as `httparse` reads it, and a body, which the head's fields frame in one way or not at all: what could be read in
+//! two ways is refused. The texts of messages, and the faults of bytes that begin none, are definitions that the reader's contract names;
+//! the laws say that texts are read in one way, that faults are final, and that the cutting of the stream does not matter.
+//!
+//! - `field`: `Field`, a field of a message
+//! - `request`, `reply`: `Request` and `Reply`
+//! - `message`: `Message`, either of both, and `Kind`, which of them a connection carries
+//! - `fault`: `HttpFault`, why bytes are no message
+//! - `limits`: how large a message may be
+//! - `head`: where the head of a message is
+//! - `framing`: `Framing`, how the end of a body is found
+//! - `chunks`: the chunks of a body
+//! - `finding`: where a message ends, found without memory
+//! - `copying`: from the bytes of a message to its owned parts
+//! - `reader`: `Reader`, which reads messages from a stream of pieces
+//! - `laws`: what holds of all messages and their texts
+//! - `x_matrix`: `XMatrix`, what the Authorization field of a request says
+//! - `said`: what its text says, as it stands there
+//! - `found`: the four parameters that count, found in a text
+//! - `parameter`: the parameter at the front of a text, and its value
+//! - `quoted`: values between quotes, read and written
+//! - `run`: runs of characters at the front of a text
+//! - `separator`: what stands in front of parameters and between them
+//! - `signing`: the text that is signed for a request, and the request with its signature
+//! - `writing`: from messages to their bytes
+//! - `x_matrix_laws`: what holds of all Authorization fields and signatures
+#![tactic(auto)]
+
+mod chunks;
+mod copying;
+mod fault;
+mod field;
+mod finding;
+mod found;
+mod framing;
+mod head;
+mod laws;
+mod limits;
+mod message;
+mod parameter;
+mod quoted;
+mod reader;
+mod reply;
+mod request;
+mod run;
+mod said;
+mod separator;
+mod signing;
+mod writing;
+mod x_matrix;
+mod x_matrix_laws;
+
+pub use fault::HttpFault;
+pub use field::Field;
+pub use framing::Framing;
+pub use laws::{
+    a_bad_length_is_nothing_else, faults_are_final, texts_are_read_in_one_way,
+    who_waits_has_no_message,
+};
+pub use limits::{MAX_BODY, MAX_FIELDS, MAX_HEAD, MAX_LENGTH_DIGITS};
+pub use message::{Kind, Message};
+pub use reader::Reader;
+pub use reply::Reply;
+pub use request::Request;
+pub use signing::{SignFault, is_signed, request_text, sign, sign_request, signed_request};
+pub use writing::{write_reply, write_request};
+pub use x_matrix::{AuthFault, XMatrix};
+pub use x_matrix_laws::{one_header, signed_requests_are_read, signed_requests_check};

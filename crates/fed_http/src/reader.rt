@@ -1,0 +1,122 @@
+// A reader of a stream of messages.
+ghost use Rattle.std.specs.Prelude.{◌≡◌, ◌↔◌, ◌++◌, true, false, Ok, Err, IfOk, IfSome, IfNone};
+ghost use Rattle.fed_http.specs.Faults.{IsBadHead, IsTooLarge, IsBadLength, HasLargeLength, IsBadChunk};
+ghost use Rattle.fed_http.specs.Reader.{started, Gives, Waits, Fails, TellsOf};
+
+use crate::copying::read;
+use crate::fault::HttpFault;
+use crate::message::{Kind, Message};
+use std::alloc::Global;
+use std::marker::Model;
+
+/// Reads the messages of a stream that comes in pieces.
+///
+/// - A head is that of HTTP/1.0 or 1.1 (RFC 9112, sections 2 to 5): at most `MAX_HEAD` bytes and `MAX_FIELDS` fields. A reply's status is
+///   at least 200 (RFC 9110, section 15.2).
+/// - A body is framed by one Content-Length of at most `MAX_LENGTH_DIGITS` digits, or by one Transfer-Encoding that is `chunked`; names
+///   and codings in any case. A request with neither has no body (RFC 9112, section 6.3).
+/// - Of chunks the extensions are dropped, and so is the trailer, whose limits are those of a head (section 7.1). A chunk line has at
+///   most `MAX_HEAD` bytes. A body has at most `MAX_BODY`.
+///
+/// It keeps the bytes since the last message, and looks at them anew with each piece. Bytes past a limit are not looked at.
+///
+/// Contracts see it as what it reads, the bytes since the last message, and whether it has failed.
+#[derive(Drop)]
+pub struct Reader {
+    kind: Kind,
+    held: Vec<u8>,
+    has_failed: bool,
+}
+
+impl Model for Reader {
+    ghost use Rattle.std.specs.Prelude.{◌≡◌, false};
+    ghost use Rattle.fed_http.specs.Reader.{Reading};
+    ghost use Rattle.fed_http.specs.Text.{HasNoText};
+
+    ghost Value = { Reading };
+
+    ghost view = { λ r. record { kind = r.kind; held = r.held.items; has_failed = r.has_failed } };
+
+    ghost invariant = { λ r. r.has_failed ≡ false → HasNoText r.kind r.held.items };
+}
+
+impl Reader {
+    /// A reader of requests, at the beginning of a stream.
+    pub fn requests(alloc: Global) -> Reader
+        ensures { result ≡ started Kind.Requests }
+    {
+        Reader {
+            kind: Kind::Requests,
+            held: Vec::new(alloc),
+            has_failed: false,
+        }
+    }
+
+    /// A reader of replies, at the beginning of a stream.
+    pub fn replies(alloc: Global) -> Reader
+        ensures { result ≡ started Kind.Replies }
+    {
+        Reader {
+            kind: Kind::Replies,
+            held: Vec::new(alloc),
+            has_failed: false,
+        }
+    }
+
+    /// The message that the bytes up to some of this piece are the text of, and how many bytes of the piece these are. Where no message
+    /// is whole yet, `None` and all bytes of the piece.
+    ///
+    /// # Errors
+    ///
+    /// `Memory` where memory ran out: the reader is as before, and the piece may be given again. Where the bytes can begin no message,
+    /// and each later call answers `HasFailed`:
+    ///
+    /// - `BadHead`: whatever follows, no head with at most `MAX_FIELDS` fields is at the front; or a reply's status is below 200; or a
+    ///   trailer has more than `MAX_FIELDS` fields.
+    /// - `TooLarge`: a head or a trailer does not end in its `MAX_HEAD` bytes; or the length that the head gives, or the chunks
+    ///   together, are over `MAX_BODY`.
+    /// - `BadLength`: the head gives several lengths or codings, both, another coding, or no number; or it is a reply's and gives none.
+    /// - `BadChunk`: a chunk line is none or too long, something else than CR LF follows a chunk, or the trailer is no field section.
+    pub fn feed(
+        &mut self,
+        alloc: Global,
+        piece: &[u8],
+    ) -> Result<(Option<Message>, usize), HttpFault>
+        ensures given { IfOk result (λ fed. IfSome fed.0 (λ m. Gives self.old piece.now self.new m fed.1)) }
+        ensures waits { IfOk result (λ fed. IfNone fed.0 (Waits self.old piece.now self.new fed.1)) }
+        ensures memory { result ≡ Err HttpFault.Memory → self.new ≡ self.old }
+        ensures bad_head { result ≡ Err HttpFault.BadHead → Fails IsBadHead self.old piece.now self.new }
+        ensures too_large { result ≡ Err HttpFault.TooLarge → Fails IsTooLarge self.old piece.now self.new }
+        ensures bad_length { result ≡ Err HttpFault.BadLength → Fails IsBadLength self.old piece.now self.new }
+        ensures bad_chunk { result ≡ Err HttpFault.BadChunk → Fails IsBadChunk self.old piece.now self.new }
+
+        // A reader that has failed says so, without memory.
+        ensures failed { self.old.has_failed ≡ true → (result ≡ Err HttpFault.HasFailed) × (self.new ≡ self.old) }
+        ensures only_failed { result ≡ Err HttpFault.HasFailed → self.old.has_failed ≡ true }
+
+        // Of a head with two lengths, or with one that is too large, nothing else is told but want of memory.
+        ensures two_lengths { self.old.has_failed ≡ false → IsBadLength self.old.kind (self.old.held ++ piece.now) → TellsOf HttpFault.BadLength result }
+        ensures large_length { self.old.has_failed ≡ false → HasLargeLength self.old.kind (self.old.held ++ piece.now) → TellsOf HttpFault.TooLarge result }
+    {
+        if self.has_failed {
+            return Err(HttpFault::HasFailed);
+        }
+        let before = self.held.len();
+        self.held.extend_from_slice(piece)?;
+        match read(alloc, self.kind, &self.held) {
+            Ok(Some((message, len))) => {
+                self.held.clear();
+                Ok((Some(message), len - before))
+            }
+            Ok(None) => Ok((None, piece.len())),
+            Err(fault) if fault == HttpFault::Memory => {
+                self.held.truncate(before);
+                Err(HttpFault::Memory)
+            }
+            Err(fault) => {
+                self.has_failed = true;
+                Err(fault)
+            }
+        }
+    }
+}

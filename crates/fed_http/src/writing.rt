@@ -1,0 +1,102 @@
+// From messages to their bytes.
+ghost use Rattle.std.specs.Prelude.{◌≡◌, ◌++◌, IfOk};
+ghost use Rattle.std.specs.List.{flat_map};
+ghost use Rattle.fed_http.specs.Text.{IsReplyText, IsRequestText};
+ghost use Rattle.fed_http.specs.Writing.{IsWritable, IsWritableReply, field_line, line_end, phrase_of, reply_bytes, request_bytes, status_line};
+
+use crate::field::Field;
+use crate::reply::Reply;
+use crate::request::Request;
+use fed_json::NoMemory;
+use http::StatusCode;
+use std::alloc::Global;
+
+/// The bytes of a request (RFC 9112, section 3): its request line with the version HTTP/1.1, its fields as they stand, an empty line and
+/// its body. Lines end in CR LF. Where the request has a head and a body that are within the limits and of the grammar, and one
+/// Content-Length that is the body's, it is read back from them.
+pub fn write_request(alloc: Global, request: &Request) -> Result<Vec<u8>, NoMemory>
+    ensures exact { IfOk result (λ bytes. bytes.items ≡ request_bytes request.now) }
+    ensures read_back { IsWritable request.now → IfOk result (λ bytes. IsRequestText request.now bytes.items) }
+{
+    let mut text = Vec::new(alloc);
+    text.extend_from_slice(request.method().as_bytes())?;
+    text.push(b' ')?;
+    text.extend_from_slice(request.target().as_bytes())?;
+    text.extend_from_slice(b" HTTP/1.1\r\n")?;
+    let text = with_fields(text, request.fields())?;
+    Ok(with_body(text, request.body())?)
+}
+
+/// The bytes of a reply (RFC 9112, section 4): its status line, the fields Content-Type, Content-Length and Connection, an empty line and
+/// its body. The phrase of a status that has none (RFC 9110, section 15) is empty. Where the status is from 200 to 999 and the body within
+/// its limit, the reply is read back from them.
+pub fn write_reply(alloc: Global, reply: &Reply) -> Result<Vec<u8>, NoMemory>
+    ensures exact { IfOk result (λ bytes. bytes.items ≡ reply_bytes reply.now) }
+    ensures read_back { IsWritableReply reply.now → IfOk result (λ bytes. IsReplyText reply.now bytes.items) }
+{
+    let body = reply.body();
+    let text = start(alloc, reply.status())?;
+    let text = with_field(text, "Content-Type", b"application/json")?;
+    let mut digits = itoa::Buffer::new();
+    let count = digits.format(body.len());
+    let text = with_field(text, "Content-Length", count.as_bytes())?;
+    let text = with_field(text, "Connection", b"close")?;
+    Ok(with_body(text, body)?)
+}
+
+// The status line of a reply.
+fn start(alloc: Global, status: u16) -> Result<Vec<u8>, NoMemory>
+    ensures { IfOk result (λ text. text.items ≡ status_line status (phrase_of status)) }
+{
+    let mut text = Vec::new(alloc);
+    text.extend_from_slice(b"HTTP/1.1 ")?;
+    let mut digits = itoa::Buffer::new();
+    text.extend_from_slice(digits.format(status).as_bytes())?;
+    text.push(b' ')?;
+    text.extend_from_slice(phrase(status).as_bytes())?;
+    text.extend_from_slice(b"\r\n")?;
+    Ok(text)
+}
+
+// The phrase of a status, empty where it has none.
+fn phrase(status: u16) -> &'static str
+    ensures { result.now ≡ phrase_of status }
+{
+    match StatusCode::from_u16(status) {
+        Ok(status) => status.canonical_reason().unwrap_or(""),
+        Err(_) => "",
+    }
+}
+
+// A text with fields behind it.
+fn with_fields(text: Vec<u8>, fields: &[Field]) -> Result<Vec<u8>, NoMemory>
+    ensures { IfOk result (λ whole. whole.items ≡ text.items ++ flat_map field_line fields.now) }
+{
+    let mut text = text;
+    for field in fields {
+        text = with_field(text, field.name(), field.value())?;
+    }
+    Ok(text)
+}
+
+// A text with the line of a field behind it.
+fn with_field(text: Vec<u8>, name: &str, value: &[u8]) -> Result<Vec<u8>, NoMemory>
+    ensures { IfOk result (λ whole. whole.items ≡ text.items ++ field_line (name.now, value.now)) }
+{
+    let mut text = text;
+    text.extend_from_slice(name.as_bytes())?;
+    text.extend_from_slice(b": ")?;
+    text.extend_from_slice(value)?;
+    text.extend_from_slice(b"\r\n")?;
+    Ok(text)
+}
+
+// A text with an empty line and a body behind it.
+fn with_body(text: Vec<u8>, body: &[u8]) -> Result<Vec<u8>, NoMemory>
+    ensures { IfOk result (λ whole. whole.items ≡ text.items ++ (line_end ++ body.now)) }
+{
+    let mut text = text;
+    text.extend_from_slice(b"\r\n")?;
+    text.extend_from_slice(body)?;
+    Ok(text)
+}
