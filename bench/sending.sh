@@ -19,7 +19,7 @@ for size in (1_000, 10_000, 100_000):
     for _ in range(runs):
         start = time.perf_counter()
         running = subprocess.Popen([program], stdin=subprocess.PIPE, stdout=subprocess.PIPE)
-        running.stdin.write(b"%d\n" % size)
+        running.stdin.write(b"send %d\n" % size)
         running.stdin.close()
         told = running.stdout.read().decode()
         _, status, used = os.wait4(running.pid, 0)

@@ -14,6 +14,7 @@ use crate::words::words_of;
 use fed_event::Trusting;
 use fed_inbox::{Inbox, Reply};
 use fed_json::NoMemory;
+use fed_replies::ListStore;
 use std::alloc::Global;
 use std::io;
 use std::io::{ErrorKind, Read, Write};
@@ -48,7 +49,7 @@ pub fn inbox_run<R: Read + Drop, W: Write>(
         rooms,
     } = setup;
     let keys = Trusting::new(String::from_str(alloc, own.as_str())?);
-    let inbox = Inbox::new(alloc, own, servers, rooms)?;
+    let inbox = Inbox::new(alloc, own, servers, rooms, ListStore::new(alloc))?;
     let mut input = Input::new(alloc, reader, MAX_READS)?;
     answer_lines(alloc, inbox, &keys, &mut input, writer)
 }
@@ -56,7 +57,7 @@ pub fn inbox_run<R: Read + Drop, W: Write>(
 // Answers the lines of an input, one after another.
 fn answer_lines<R: Read, W: Write>(
     alloc: Global,
-    mut inbox: Inbox,
+    mut inbox: Inbox<ListStore>,
     keys: &Trusting,
     input: &mut Input<R>,
     writer: &mut W,

@@ -1,5 +1,5 @@
 // Whose inbox a run answers for.
-ghost use Rattle.std.specs.Prelude.{◌≡◌, All, map, string_bytes, bytes_eq, IfOk, OnOk, IsErrOf};
+ghost use Rattle.std.specs.Prelude.{◌≡◌, All, Err, map, string_bytes, bytes_eq, IfOk, OnOk, IsErrOf};
 ghost use Rattle.std.specs.List.{list_any};
 ghost use Rattle.std.specs.List.Sorted.{IsPermutation};
 ghost use Rattle.fed_dest.specs.ServerName.{IsServerName};
@@ -75,8 +75,8 @@ impl InboxSetup {
     ///
     /// # Errors
     ///
-    /// `BadServers` where one of these texts is no server name, one stands there twice, or they are more than 64. `Memory` where memory
-    /// ran out.
+    /// `BadServers` where one of these texts is no server name, one stands there twice, or they are more than 64; that the own name is
+    /// none is told without memory. `Memory` where memory ran out.
     pub fn read(
         alloc: Global,
         own: &str,
@@ -88,6 +88,7 @@ impl InboxSetup {
         ensures rooms { IfOk result (λ setup. setup.rooms.items ≡ rooms.items) }
         ensures good { OnOk result (AreServers (with_own own.now (map string_bytes servers.now))) }
         ensures bad { IsErrOf result BadServers → ¬ AreServers (with_own own.now (map string_bytes servers.now)) }
+        ensures own_refused { ¬ IsServerName own.now → result ≡ Err BadServers }
     {
         let own = ServerName::read(alloc, own)?;
         let names = names_of(alloc, servers)?;

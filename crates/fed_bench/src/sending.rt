@@ -1,11 +1,11 @@
 // From events that are offered to transactions that are settled.
+use crate::stop::Stop;
 use fed_dest::{MAX_SERVERS, ServerIndex, ServerSet};
 use fed_event::{CheckFault, Checked, Pdu, PduFault, Trusting, check_in};
 use fed_journal::{Journal, JournalFault, Load, Parcel};
-use fed_json::NoMemory;
 use fed_outbox::{Outbox, OutboxFault};
 use fed_txn::write;
-use std::alloc::{AllocFailed, Global};
+use std::alloc::Global;
 use std::fmt;
 
 const ORIGIN: &str = "a.example";
@@ -34,25 +34,6 @@ impl fmt::Display for Counts {
             f,
             "addressed {addressed}, transactions {transactions}, bytes {bytes}, settled {settled}"
         )
-    }
-}
-
-/// Why there is nothing to count.
-#[derive(Clone, Copy, Debug)]
-pub(crate) enum Stop {
-    Memory,
-    Refused,
-}
-
-impl From<NoMemory> for Stop {
-    fn from(_error: NoMemory) -> Stop {
-        Stop::Memory
-    }
-}
-
-impl<T: Drop> From<AllocFailed<T>> for Stop {
-    fn from(_error: AllocFailed<T>) -> Stop {
-        Stop::Memory
     }
 }
 

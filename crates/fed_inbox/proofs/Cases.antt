@@ -12,13 +12,13 @@ use Rattle.fed_txn.specs.declared.fault.TxnFault.TheVariants as fault
 use Rattle.fed_txn.specs.Transaction.{Transaction, transaction_of}
 use Rattle.fed_txn.specs.Reading.{value_or_fault, body_of, transaction_or_fault, read_of}
 use Rattle.fed_inbox.specs.declared.refusal.Refusal.{Refusal}
-use Rattle.fed_inbox.specs.declared.refusal.Refusal.TheVariants.{ServerNotListed, OriginDiffers, OutOfMemory}
+use Rattle.fed_inbox.specs.declared.refusal.Refusal.TheVariants.{ServerNotListed, BadSignature, OriginDiffers, OutOfMemory}
 use Rattle.fed_inbox.specs.Refusal.{refusal_of}
 use Rattle.fed_inbox.specs.Reply.{Answer, accepted, refused}
 use Rattle.fed_inbox.specs.Log.{LogState}
 use Rattle.fed_inbox.specs.Inbox.{InboxState, log_at, with_log}
 use Rattle.fed_inbox.specs.Taking.{taking_of}
-use Rattle.fed_inbox.specs.Answer.{Request, Step, answered, taken, with_taking, names_other, step_new, step_kept, step_body, step_of, answer_by, logs_by, fresh_by, after, marked_answer, marked_after, marked_fresh}
+use Rattle.fed_inbox.specs.Answer.{Request, Step, answered, taken, with_taking, names_other, step_new, step_kept, step_signed, step_body, step_of, answer_by, logs_by, fresh_by, after, marked_answer, marked_after, marked_fresh}
 use Rattle.fed_inbox.specs.Runs.{comes_first, reply_by, kept_reply}
 use Rattle.fed_inbox.proofs.FoundLogs.{option_cases, found_is, log_at-with_log_same, log_at-with_log_other, put_back}
 
@@ -63,13 +63,18 @@ module _ (checks : Checks) (rooms : List (List ℕ)) (l : LogState) (txn : List 
   cases_kept d (Some reply) is = inr (inl (record { reply = reply; kept = is; is = refl }))
   cases_kept d None is = cases_new d (transaction_of d) refl is
 
-  cases_body : (b : Result Data TxnFault) → IfErr b (λ f. comes_first (refusal_of f) ≡ true) → StepCases b (step_body checks rooms l txn b)
-  cases_body (Err f) first = inl (record { refusal = refusal_of f; first = inl first; is = refl })
-  cases_body (Ok d) first =
+  cases_signed : (d : Data) → StepCases (Ok d) (step_signed checks rooms l txn d)
+  cases_signed d =
       elim (names_other d l.origin) as (λ b. StepCases (Ok d) (if b then answered l (refused OriginDiffers) else step_kept checks rooms l txn d (finite.get l.replies txn))) [
         | true ↦ inl (record { refusal = OriginDiffers; first = inl refl; is = refl })
         | false ↦ cases_kept d (finite.get l.replies txn) refl
       ]
+
+  cases_body : (is_signed : Data → Bool) (b : Result Data TxnFault) → IfErr b (λ f. comes_first (refusal_of f) ≡ true) → StepCases b (step_body checks rooms l txn is_signed b)
+  cases_body is_signed (Err f) first = inl (record { refusal = refusal_of f; first = inl first; is = refl })
+  cases_body is_signed (Ok d) first =
+      elim (is_signed d) as (λ b. StepCases (Ok d) (if b then step_signed checks rooms l txn d else answered l (refused BadSignature)))
+      [ true ↦ cases_signed d | false ↦ inl (record { refusal = BadSignature; first = inl refl; is = refl }) ]
 
 -- ---- the requests of an inbox
 
@@ -165,7 +170,7 @@ module _ (checks : Checks) (s : InboxState) (r : Request) where
   by_log : (log_at r.origin s.logs ≡ None) ⊎ ((l : LogState) × (log_at r.origin s.logs ≡ Some l))
       → RequestCases checks s r (marked_answer checks s r true) (after checks s r) (marked_fresh checks s r true)
   by_log (inl none) = inl (nobody none)
-  by_log (inr (l, there)) = by_step l there (cases_body checks s.rooms l r.txn (body_of r.body) (body_first r.body))
+  by_log (inr (l, there)) = by_step l there (cases_body checks s.rooms l r.txn r.is_signed (body_of r.body) (body_first r.body))
 
   pub cases : (found : Bool) → RequestCases checks s r (marked_answer checks s r found) (marked_after checks s r found) (marked_fresh checks s r found)
   cases true = by_log (option_cases (log_at r.origin s.logs))
@@ -180,7 +185,7 @@ module _ (checks : Checks) (s : InboxState) (r : Request) where
       by (inl none) = ap (λ found. log_at o (logs_by checks s.rooms s.logs found r)) none
       by (inr (l, there)) =
           ap (λ found. log_at o (logs_by checks s.rooms s.logs found r)) there
-          ∙ log_at-with_log_other o r.origin s.logs (step_of checks s.rooms l r).log apart (origin_stays (cases_body checks s.rooms l r.txn (body_of r.body) (body_first r.body)) ∙ found_is r.origin s.logs l there)
+          ∙ log_at-with_log_other o r.origin s.logs (step_of checks s.rooms l r).log apart (origin_stays (cases_body checks s.rooms l r.txn r.is_signed (body_of r.body) (body_first r.body)) ∙ found_is r.origin s.logs l there)
         where
           origin_stays : StepCases checks s.rooms l r.txn (body_of r.body) (step_of checks s.rooms l r) → (step_of checks s.rooms l r).log.origin ≡ l.origin
           origin_stays (inl nothing) = ap (λ (st : Step). st.log.origin) nothing.is

@@ -1,7 +1,6 @@
 -- What a new inbox knows and what the verdicts of a transaction are, as look-ups.
 use Rattle.std.proofs.Common.{◌≡◌, ◌≢◌, ℕ, List, [], ◌∷◌, map, filter, Bool, true, false, ◌&&◌, ◌||◌, not, cond, if◌then◌else◌, Option, Some, None, option_map, is_some, find, bytes_eq, Less, Equal, Greater, nat_cmp, refl, sym, ap, ◌∙◌, ◌⊎◌, inl, inr}
 use Rattle.std.proofs.lemmas.Bool.{cases_Bool, false≢true}
-use Rattle.std.specs.List.{list_any}
 use Rattle.std.proofs.lemmas.Slice.Eq.{bytes_eq-Decides}
 use Rattle.std.proofs.lemmas.Map.Text.{is_eq-slice_cmp}
 use Rattle.std.specs.FinMap as finite
@@ -14,9 +13,9 @@ use Rattle.fed_event.specs.Names.{is_one_of}
 use Rattle.fed_event.specs.EventId.{event_id_of}
 use Rattle.fed_event.specs.Keys.{Checks}
 use Rattle.fed_txn.specs.Verdicts.{VerdictMap}
-use Rattle.fed_inbox.specs.Log.{LogState}
 use Rattle.fed_inbox.specs.Rooms.{with_rooms}
-use Rattle.fed_inbox.specs.Inbox.{is_of, log_at, empty_log, logs_for}
+use Rattle.fed_replies.specs.Kept.{KeptReplies}
+use Rattle.fed_inbox.specs.Inbox.{log_at, new_log, logs_for}
 use Rattle.fed_inbox.specs.Taking.{firsts_but, verdict_on, with_verdicts}
 use Rattle.fed_inbox.specs.LookUps.{log_of_new, has_id}
 use Rattle.fed_inbox.proofs.FoundLogs.{same_or_not}
@@ -79,42 +78,42 @@ and_false true = refl
 and_false false = refl
 
 -- the own server has no log, listed or not
-own_has_none : (own : List ℕ) (ss : List (List ℕ)) (q : List ℕ) → bytes_eq q own ≡ true → log_of_new own ss q ≡ None
-own_has_none own ss q t =
-    ap (λ b. if is_one_of ss q && not b then Some (empty_log q) else None) t
-    ∙ ap (λ b. if b then Some (empty_log q) else None) (and_false (is_one_of ss q))
+own_has_none : (kept : KeptReplies) (own : List ℕ) (ss : List (List ℕ)) (q : List ℕ) → bytes_eq q own ≡ true → log_of_new kept own ss q ≡ None
+own_has_none kept own ss q t =
+    ap (λ b. if is_one_of ss q && not b then Some (new_log kept q) else None) t
+    ∙ ap (λ b. if b then Some (new_log kept q) else None) (and_false (is_one_of ss q))
 
-not_first : (own s : List ℕ) (ss : List (List ℕ)) (q : List ℕ) → q ≢ s → log_of_new own ss q ≡ log_of_new own (s ∷ ss) q
-not_first own s ss q apart = ap (λ b. if (b || is_one_of ss q) && not (bytes_eq q own) then Some (empty_log q) else None) (sym (eq_false q s apart))
+not_first : (kept : KeptReplies) (own s : List ℕ) (ss : List (List ℕ)) (q : List ℕ) → q ≢ s → log_of_new kept own ss q ≡ log_of_new kept own (s ∷ ss) q
+not_first kept own s ss q apart = ap (λ b. if (b || is_one_of ss q) && not (bytes_eq q own) then Some (new_log kept q) else None) (sym (eq_false q s apart))
 
-first_is : (own s : List ℕ) (ss : List (List ℕ)) → bytes_eq s own ≡ false → log_of_new own (s ∷ ss) s ≡ Some (empty_log s)
-first_is own s ss f =
-    ap (λ b. if (b || is_one_of ss s) && not (bytes_eq s own) then Some (empty_log s) else None) (eq_true s)
-    ∙ ap (λ b. if not b then Some (empty_log s) else None) f
+first_is : (kept : KeptReplies) (own s : List ℕ) (ss : List (List ℕ)) → bytes_eq s own ≡ false → log_of_new kept own (s ∷ ss) s ≡ Some (new_log kept s)
+first_is kept own s ss f =
+    ap (λ b. if (b || is_one_of ss s) && not (bytes_eq s own) then Some (new_log kept s) else None) (eq_true s)
+    ∙ ap (λ b. if not b then Some (new_log kept s) else None) f
 
 -- the first of these servers has a log where it is not the own
-first_log : (own s : List ℕ) (ss : List (List ℕ)) (q : List ℕ) (b : Bool) → bytes_eq s own ≡ b
-    → log_at q (logs_for own (s ∷ ss)) ≡ (if b then log_at q (logs_for own ss) else cond (bytes_eq s q) (Some (empty_log s)) (log_at q (logs_for own ss)))
-first_log own s ss q true e = ap (λ x. log_at q (map empty_log (cond (not x) (s ∷ filter (λ server. not (bytes_eq server own)) ss) (filter (λ server. not (bytes_eq server own)) ss)))) e
-first_log own s ss q false e = ap (λ x. log_at q (map empty_log (cond (not x) (s ∷ filter (λ server. not (bytes_eq server own)) ss) (filter (λ server. not (bytes_eq server own)) ss)))) e
+first_log : (kept : KeptReplies) (own s : List ℕ) (ss : List (List ℕ)) (q : List ℕ) (b : Bool) → bytes_eq s own ≡ b
+    → log_at q (logs_for kept own (s ∷ ss)) ≡ (if b then log_at q (logs_for kept own ss) else cond (bytes_eq s q) (Some (new_log kept s)) (log_at q (logs_for kept own ss)))
+first_log kept own s ss q true e = ap (λ x. log_at q (map (new_log kept) (cond (not x) (s ∷ filter (λ server. not (bytes_eq server own)) ss) (filter (λ server. not (bytes_eq server own)) ss)))) e
+first_log kept own s ss q false e = ap (λ x. log_at q (map (new_log kept) (cond (not x) (s ∷ filter (λ server. not (bytes_eq server own)) ss) (filter (λ server. not (bytes_eq server own)) ss)))) e
 
-pub logs_listed : (own : List ℕ) (servers : List (List ℕ)) (q : List ℕ) → log_at q (logs_for own servers) ≡ log_of_new own servers q
-logs_listed own [] q = refl
-logs_listed own (s ∷ ss) q = by (logs_listed own ss q) (cases_Bool (bytes_eq s own)) (same_or_not q s)
+pub logs_listed : (kept : KeptReplies) (own : List ℕ) (servers : List (List ℕ)) (q : List ℕ) → log_at q (logs_for kept own servers) ≡ log_of_new kept own servers q
+logs_listed kept own [] q = refl
+logs_listed kept own (s ∷ ss) q = by (logs_listed kept own ss q) (cases_Bool (bytes_eq s own)) (same_or_not q s)
   where
-    by : log_at q (logs_for own ss) ≡ log_of_new own ss q → (bytes_eq s own ≡ true) ⊎ (bytes_eq s own ≡ false) → (q ≡ s) ⊎ (q ≢ s)
-        → log_at q (logs_for own (s ∷ ss)) ≡ log_of_new own (s ∷ ss) q
+    by : log_at q (logs_for kept own ss) ≡ log_of_new kept own ss q → (bytes_eq s own ≡ true) ⊎ (bytes_eq s own ≡ false) → (q ≡ s) ⊎ (q ≢ s)
+        → log_at q (logs_for kept own (s ∷ ss)) ≡ log_of_new kept own (s ∷ ss) q
     by later (inl t) (inl is) =
         let own_too = ap (λ x. bytes_eq x own) is ∙ t in
-        first_log own s ss q true t ∙ later ∙ own_has_none own ss q own_too ∙ sym (own_has_none own (s ∷ ss) q own_too)
-    by later (inl t) (inr apart) = first_log own s ss q true t ∙ later ∙ not_first own s ss q apart
+        first_log kept own s ss q true t ∙ later ∙ own_has_none kept own ss q own_too ∙ sym (own_has_none kept own (s ∷ ss) q own_too)
+    by later (inl t) (inr apart) = first_log kept own s ss q true t ∙ later ∙ not_first kept own s ss q apart
     by later (inr f) (inl is) =
-        ap (λ x. log_at x (logs_for own (s ∷ ss))) is
-        ∙ first_log own s ss s false f ∙ ap (λ b. cond b (Some (empty_log s)) (log_at s (logs_for own ss))) (eq_true s)
-        ∙ sym (first_is own s ss f) ∙ ap (log_of_new own (s ∷ ss)) (sym is)
+        ap (λ x. log_at x (logs_for kept own (s ∷ ss))) is
+        ∙ first_log kept own s ss s false f ∙ ap (λ b. cond b (Some (new_log kept s)) (log_at s (logs_for kept own ss))) (eq_true s)
+        ∙ sym (first_is kept own s ss f) ∙ ap (log_of_new kept own (s ∷ ss)) (sym is)
     by later (inr f) (inr apart) =
-        first_log own s ss q false f ∙ ap (λ b. cond b (Some (empty_log s)) (log_at q (logs_for own ss))) (eq_false s q (λ e. apart (sym e)))
-        ∙ later ∙ not_first own s ss q apart
+        first_log kept own s ss q false f ∙ ap (λ b. cond b (Some (new_log kept s)) (log_at q (logs_for kept own ss))) (eq_false s q (λ e. apart (sym e)))
+        ∙ later ∙ not_first kept own s ss q apart
 
 -- ---- the verdicts
 

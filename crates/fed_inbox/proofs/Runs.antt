@@ -10,7 +10,7 @@ use Rattle.fed_json.specs.TextMap.{TextMap}
 use Rattle.fed_event.specs.Keys.{Checks}
 use Rattle.fed_event.specs.Checked.{CheckedEvent}
 use Rattle.fed_inbox.specs.declared.refusal.Refusal.{Refusal}
-use Rattle.fed_inbox.specs.declared.refusal.Refusal.TheVariants.{ServerNotListed, BodyTooLarge, NotJson, NotCanonical, OriginDiffers, BadField, TooManyPdus, TooManyEdus, OutOfMemory}
+use Rattle.fed_inbox.specs.declared.refusal.Refusal.TheVariants.{ServerNotListed, BodyTooLarge, NotJson, NotCanonical, BadSignature, OriginDiffers, BadField, TooManyPdus, TooManyEdus, OutOfMemory}
 use Rattle.fed_inbox.specs.Reply.{Answer, accepted, refused}
 use Rattle.fed_inbox.specs.Log.{LogState}
 use Rattle.fed_inbox.specs.Taking.{taking_of}
@@ -36,6 +36,7 @@ not_refused ServerNotListed e = absurd (omega arith)
 not_refused BodyTooLarge e = absurd (omega arith)
 not_refused NotJson e = absurd (omega arith)
 not_refused NotCanonical e = absurd (omega arith)
+not_refused BadSignature e = absurd (omega arith)
 not_refused OriginDiffers e = absurd (omega arith)
 not_refused (BadField field) e = absurd (omega arith)
 not_refused TooManyPdus e = absurd (omega arith)

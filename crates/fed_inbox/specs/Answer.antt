@@ -1,6 +1,6 @@
 -- What an inbox answers to a request `PUT /_matrix/federation/v1/send/{txnId}`, and its state afterwards (Server-Server API,
 -- "Transactions"; a transaction that was answered before gets the same answer, and is not taken again).
-use Rattle.std.specs.Prelude.{◌≡◌, ℕ, List, [], ◌++◌, Bool, false, not, Option, Some, None, option_map, unwrap_or, Result, Ok, Err, if◌then◌else◌}
+use Rattle.std.specs.Prelude.{◌≡◌, ℕ, List, [], ◌++◌, Bool, true, false, not, Option, Some, None, option_map, unwrap_or, Result, Ok, Err, if◌then◌else◌}
 use Rattle.std.specs.Str.{bytes_eq}
 use Rattle.std.specs.FinMap as finite
 use Rattle.serde_json.specs.Data.{Data}
@@ -9,17 +9,19 @@ use Rattle.fed_event.specs.Checked.{CheckedEvent}
 use Rattle.fed_txn.specs.declared.fault.TxnFault.{TxnFault}
 use Rattle.fed_txn.specs.Transaction.{Transaction, origin_of, transaction_of}
 use Rattle.fed_txn.specs.Reading.{body_of}
-use Rattle.fed_inbox.specs.declared.refusal.Refusal.TheVariants.{ServerNotListed, OriginDiffers, OutOfMemory}
+use Rattle.fed_inbox.specs.declared.refusal.Refusal.TheVariants.{ServerNotListed, BadSignature, OriginDiffers, OutOfMemory}
 use Rattle.fed_inbox.specs.Refusal.{refusal_of}
 use Rattle.fed_inbox.specs.Reply.{Answer, accepted, refused}
 use Rattle.fed_inbox.specs.Log.{LogState}
 use Rattle.fed_inbox.specs.Taking.{Taking, taking_of}
 use Rattle.fed_inbox.specs.Inbox.{InboxState, log_at, with_log}
 
+-- a request of an origin, and whether it is signed by the origin where its body is of a value
 pub record Request : Type 0 where
   pub origin : List ℕ
   pub txn : List ℕ
   pub body : List ℕ
+  pub is_signed : Data → Bool
 
 -- the log with what a transaction came to, and its reply
 abbrev pub with_taking : LogState → List ℕ → Taking → LogState
@@ -60,13 +62,16 @@ module _ (checks : Checks) (rooms : List (List ℕ)) where
   step_kept log txn body (Some reply) = answered log (accepted reply)
   step_kept log txn body None = step_new log txn (transaction_of body)
 
-  abbrev pub step_body : LogState → List ℕ → Result Data TxnFault → Step
-  step_body log txn (Err fault) = answered log (refused (refusal_of fault))
-  step_body log txn (Ok body) = if names_other body log.origin then answered log (refused OriginDiffers) else step_kept log txn body (finite.get log.replies txn)
+  abbrev pub step_signed : LogState → List ℕ → Data → Step
+  step_signed log txn body = if names_other body log.origin then answered log (refused OriginDiffers) else step_kept log txn body (finite.get log.replies txn)
+
+  abbrev pub step_body : LogState → List ℕ → (Data → Bool) → Result Data TxnFault → Step
+  step_body log txn is_signed (Err fault) = answered log (refused (refusal_of fault))
+  step_body log txn is_signed (Ok body) = if is_signed body then step_signed log txn body else answered log (refused BadSignature)
 
   -- the step of a request of the log's origin
   abbrev pub step_of : LogState → Request → Step
-  step_of log request = step_body log request.txn (body_of request.body)
+  step_of log request = step_body log request.txn request.is_signed (body_of request.body)
 
   abbrev pub answer_by : Option LogState → Request → Answer
   answer_by None request = refused ServerNotListed
@@ -116,8 +121,12 @@ module _ (checks : Checks) where
     pub new_is : new ≡ marked_after old request found
     pub fresh_is : fresh ≡ marked_fresh old request found
 
+abbrev pub request_by : List ℕ → List ℕ → List ℕ → (Data → Bool) → Request
+request_by origin txn body is_signed = record { origin = origin; txn = txn; body = body; is_signed = is_signed }
+
+-- a request whose origin is known by other means than a signature
 abbrev pub request_of : List ℕ → List ℕ → List ℕ → Request
-request_of origin txn body = record { origin = origin; txn = txn; body = body }
+request_of origin txn body = request_by origin txn body (λ _. true)
 
 -- a log answered by a step, or for want of memory, and then it stays
 pub record Steps (old : LogState) (step : Step) (answer : Answer) (new : LogState) (fresh : List CheckedEvent) : Type 0 where

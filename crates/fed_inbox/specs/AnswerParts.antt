@@ -10,7 +10,7 @@ use Rattle.fed_inbox.specs.declared.refusal.Refusal.{Refusal}
 use Rattle.fed_inbox.specs.Reply.{Answer, accepted, refused}
 use Rattle.fed_inbox.specs.Log.{LogState}
 use Rattle.fed_inbox.specs.Inbox.{InboxState}
-use Rattle.fed_inbox.specs.Answer.{Request, IsAnswered, Steps, step_body, step_new}
+use Rattle.fed_inbox.specs.Answer.{Request, IsAnswered, Steps, step_signed, step_new}
 
 -- the reply, and the events for the rooms
 abbrev pub taken_by : Accepted → List ℕ × List CheckedEvent
@@ -30,8 +30,8 @@ module _ (checks : Checks) where
   IsTried old request result new = IsAnswered checks old request (answer_with result) new (fresh_with result)
 
   module _ (rooms : List (List ℕ)) where
-    abbrev pub IsStep : LogState → List ℕ → Result Data TxnFault → Result Accepted Refusal → LogState → Type 0
-    IsStep old txn body result new = Steps old (step_body checks rooms old txn body) (answer_with result) new (fresh_with result)
+    abbrev pub IsStep : LogState → List ℕ → Data → Result Accepted Refusal → LogState → Type 0
+    IsStep old txn body result new = Steps old (step_signed checks rooms old txn body) (answer_with result) new (fresh_with result)
 
     abbrev pub IsNewStep : LogState → List ℕ → Result Transaction TxnFault → Result Accepted Refusal → LogState → Type 0
     IsNewStep old txn transaction result new = Steps old (step_new checks rooms old txn transaction) (answer_with result) new (fresh_with result)

@@ -1,9 +1,9 @@
 -- The state of an inbox: the server's name, the rooms that it knows, and a log for each server that it takes from.
 use Rattle.std.specs.Prelude.{ℕ, List, [], ◌∷◌, refl, map, filter, find, Option, Some, None, Bool, not, if◌then◌else◌}
 use Rattle.std.specs.Str.{bytes_eq}
-use Rattle.std.specs.FinMap as finite
 use Rattle.std.specs.Coded.{Coded, code_by, coded×, coded_ℕ, coded_list}
 use Rattle.fed_event.specs.Checked.{CheckedEvent, checked_code}
+use Rattle.fed_replies.specs.Kept.{KeptReplies, replies_of}
 use Rattle.fed_inbox.specs.Rooms.{room_set}
 use Rattle.fed_inbox.specs.Log.{LogState, log_code}
 
@@ -28,9 +28,9 @@ pub record Held : Type 0 where
 abbrev pub held_code : Coded Held
 held_code = code_by (InboxState × List CheckedEvent) (coded× inbox_code (coded_list checked_code)) (λ h. (h.state, h.fresh)) (λ p. record { state = p.0; fresh = p.1 }) (λ _. refl)
 
--- the log of an origin that nothing was taken from
-abbrev pub empty_log : List ℕ → LogState
-empty_log origin = record { origin = origin; replies = finite.empty; pdus = []; edus = [] }
+-- the log of an origin that nothing was taken from, with the replies that are kept for it
+abbrev pub new_log : KeptReplies → List ℕ → LogState
+new_log kept origin = record { origin = origin; replies = replies_of kept origin; pdus = []; edus = [] }
 
 abbrev pub is_of : List ℕ → LogState → Bool
 is_of origin log = bytes_eq log.origin origin
@@ -44,16 +44,16 @@ abbrev pub with_log : List ℕ → List LogState → LogState → List LogState
 with_log origin [] log = []
 with_log origin (l ∷ logs) log = if is_of origin l then log ∷ logs else l ∷ with_log origin logs log
 
--- an empty log for each of these servers but `own`
-abbrev pub logs_for : List ℕ → List (List ℕ) → List LogState
-logs_for own servers = map empty_log (filter (λ server. not (bytes_eq server own)) servers)
+-- a log for each of these servers but `own`, from which nothing was taken
+abbrev pub logs_for : KeptReplies → List ℕ → List (List ℕ) → List LogState
+logs_for kept own servers = map (new_log kept) (filter (λ server. not (bytes_eq server own)) servers)
 
--- an inbox that nothing came to
-abbrev pub new_inbox : List ℕ → List (List ℕ) → List (List ℕ) → InboxState
-new_inbox own servers rooms = record { own = own; rooms = room_set rooms; logs = logs_for own servers }
+-- an inbox that nothing came to, and the replies that are kept from before
+abbrev pub new_inbox : KeptReplies → List ℕ → List (List ℕ) → List (List ℕ) → InboxState
+new_inbox kept own servers rooms = record { own = own; rooms = room_set rooms; logs = logs_for kept own servers }
 
-abbrev pub new_held : List ℕ → List (List ℕ) → List (List ℕ) → Held
-new_held own servers rooms = record { state = new_inbox own servers rooms; fresh = [] }
+abbrev pub new_held : KeptReplies → List ℕ → List (List ℕ) → List (List ℕ) → Held
+new_held kept own servers rooms = record { state = new_inbox kept own servers rooms; fresh = [] }
 
 -- the texts taken from an origin, in order: none from a server that is not listed
 abbrev pub pdus_by : Option LogState → List (List ℕ)

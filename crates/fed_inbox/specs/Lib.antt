@@ -16,3 +16,4 @@ pub mod Answer
 pub mod AnswerParts
 pub mod Runs
 pub mod LookUps
+pub mod SendPath

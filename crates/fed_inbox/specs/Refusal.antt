@@ -4,7 +4,7 @@ use Rattle.fed_txn.specs.declared.fault.TxnFault.{TxnFault}
 use Rattle.fed_txn.specs.declared.fault.TxnFault.TheVariants as fault
 use Rattle.fed_txn.specs.Fault.{field_name}
 use Rattle.fed_inbox.specs.declared.refusal.Refusal.{Refusal}
-use Rattle.fed_inbox.specs.declared.refusal.Refusal.TheVariants.{ServerNotListed, BodyTooLarge, NotJson, NotCanonical, OriginDiffers, BadField, TooManyPdus, TooManyEdus, OutOfMemory}
+use Rattle.fed_inbox.specs.declared.refusal.Refusal.TheVariants.{ServerNotListed, BodyTooLarge, NotJson, NotCanonical, BadSignature, OriginDiffers, BadField, TooManyPdus, TooManyEdus, OutOfMemory}
 
 pub record ErrorReply : Type 0 where
   pub status : ℕ
@@ -19,6 +19,7 @@ error_reply ServerNotListed = row 403 (codes "M_FORBIDDEN") (codes "server not l
 error_reply BodyTooLarge = row 413 (codes "M_TOO_LARGE") (codes "body too large")
 error_reply NotJson = row 400 (codes "M_NOT_JSON") (codes "not json")
 error_reply NotCanonical = row 400 (codes "M_BAD_JSON") (codes "not canonical")
+error_reply BadSignature = row 401 (codes "M_UNAUTHORIZED") (codes "bad signature")
 error_reply OriginDiffers = row 401 (codes "M_UNAUTHORIZED") (codes "origin differs")
 error_reply (BadField field) = row 400 (codes "M_BAD_JSON") (codes "bad field: " ++ field_name field)
 error_reply TooManyPdus = row 400 (codes "M_BAD_JSON") (codes "too many pdus")

@@ -9,7 +9,7 @@ use Rattle.fed_event.specs.Checked.{CheckedEvent, IsCheckedUnder}
 use Rattle.fed_txn.specs.Reading.{read_of}
 use Rattle.fed_txn.specs.Transaction.{Transaction}
 use Rattle.fed_inbox.specs.declared.refusal.Refusal.{Refusal}
-use Rattle.fed_inbox.specs.declared.refusal.Refusal.TheVariants.{BodyTooLarge, NotJson, NotCanonical, OriginDiffers, OutOfMemory}
+use Rattle.fed_inbox.specs.declared.refusal.Refusal.TheVariants.{BodyTooLarge, NotJson, NotCanonical, BadSignature, OriginDiffers, OutOfMemory}
 use Rattle.fed_inbox.specs.Reply.{Answer, accepted, refused}
 use Rattle.fed_inbox.specs.Log.{LogState}
 use Rattle.fed_inbox.specs.Taking.{taking_of}
@@ -74,6 +74,7 @@ abbrev pub comes_first : Refusal → Bool
 comes_first BodyTooLarge = true
 comes_first NotJson = true
 comes_first NotCanonical = true
+comes_first BadSignature = true
 comes_first OriginDiffers = true
 comes_first OutOfMemory = true
 comes_first refusal = false

@@ -3,8 +3,10 @@ ghost use Rattle.std.specs.Prelude.{◌≡◌, ◌<◌, [], None, Err, map, leng
 ghost use Rattle.fed_event.specs.Names.{is_one_of};
 ghost use Rattle.fed_inbox.specs.Taken.{taken_left};
 ghost use Rattle.fed_inbox.specs.Reply.{refused};
-ghost use Rattle.fed_inbox.specs.Inbox.{new_held, logs_for, is_of, log_at, taken_of, taken_edus_of};
-ghost use Rattle.fed_inbox.specs.Answer.{IsAnswered, request_of};
+ghost use Rattle.fed_inbox.specs.Inbox.{new_held, log_at, taken_of, taken_edus_of};
+ghost use Rattle.fed_inbox.specs.InboxParts.{nothing_from_all};
+ghost use Rattle.fed_inbox.specs.LogParts.{is_from};
+ghost use Rattle.fed_inbox.specs.Answer.{IsAnswered, request_of, request_by};
 ghost use Rattle.fed_inbox.specs.AnswerParts.{IsTried};
 ghost use Rattle.fed_inbox.specs.Log.{AreByOrigin};
 
@@ -13,25 +15,28 @@ use crate::refusal::Refusal;
 use crate::reply::Reply;
 use crate::rooms::Rooms;
 use crate::taken::Taken;
+use crate::vouching::{Known, Vouch};
 use fed_dest::{List, ServerName};
 use fed_event::{Checked, Keys};
 use fed_json::NoMemory;
+use fed_replies::ReplyStore;
 use fed_txn::{MAX_BODY, read_body};
 use std::alloc::Global;
 use std::marker::Model;
 
-/// The transactions that a server was sent: what it took of them, and the replies that it gave.
+/// The transactions that a server was sent: what it took of them, and the replies that it gave, which a store keeps.
 ///
-/// Contracts see it as its state, and beside it the events that the newest answer took for the rooms and that are not handed out.
+/// Contracts see it as its state, in which each log has the replies that the store keeps for its origin, and beside it the events that the newest answer took for the rooms and that are not handed out.
 #[derive(Drop)]
-pub struct Inbox {
+pub struct Inbox<S: ReplyStore> {
     own: ServerName,
     rooms: Rooms,
     logs: Vec<Log>,
     fresh: Vec<Checked>,
+    store: S,
 }
 
-impl Model for Inbox {
+impl<S: ReplyStore> Model for Inbox<S> {
     ghost use Rattle.fed_inbox.specs.Inbox.{Held, held_code};
     ghost use Rattle.fed_inbox.specs.InboxParts.{state_of};
 
@@ -39,22 +44,24 @@ impl Model for Inbox {
 
     ghost coded = { held_code };
 
-    ghost view = { λ i. record { state = state_of i; fresh = i.fresh.items } };
+    ghost view = { λ i. record { state = state_of i.own i.rooms (S.kept i.store) i.logs.items; fresh = i.fresh.items } };
 
     ghost use Rattle.fed_inbox.specs.Log.{AreByOrigin};
 
     ghost invariant = { λ i. AreByOrigin i.logs.items };
 }
 
-impl Inbox {
-    /// An empty inbox of the server `own`, which takes from the other servers of the list, and knows these rooms.
+impl<S: ReplyStore + Drop> Inbox<S> {
+    /// An inbox of the server `own`, which takes from the other servers of the list, and knows these rooms. Nothing was taken, and the
+    /// replies are those that the store keeps from before.
     pub fn new(
         alloc: Global,
         own: ServerName,
         servers: List,
         rooms: Vec<String>,
-    ) -> Result<Inbox, NoMemory>
-        ensures { IfOk result (λ inbox. inbox ≡ new_held own servers (map string_bytes rooms.items)) }
+        store: S,
+    ) -> Result<Inbox<S>, NoMemory>
+        ensures { IfOk result (λ inbox. inbox ≡ new_held (S.kept store) own servers (map string_bytes rooms.items)) }
     {
         let logs = logs_of(alloc, &own, servers)?;
         let rooms = Rooms::new(alloc, rooms)?;
@@ -63,9 +70,12 @@ impl Inbox {
             rooms,
             logs,
             fresh: Vec::new(alloc),
+            store,
         })
     }
+}
 
+impl<S: ReplyStore> Inbox<S> {
     /// The name of the server.
     pub fn own(&self) -> &str
         ensures { result.now ≡ self.now.state.own }
@@ -109,7 +119,7 @@ impl Inbox {
         ensures large { IsSome (log_at origin.now self.old.state.logs) → MAX_BODY < length body.now
             → result ≡ refused Refusal.BodyTooLarge }
     {
-        match self.try_answer(alloc, origin, txn, body, keys) {
+        match self.try_answer(alloc, origin, txn, body, &Known, keys) {
             Ok(Accepted { reply, fresh }) => {
                 self.fresh = fresh;
                 Reply::accepted(reply)
@@ -136,7 +146,7 @@ impl Inbox {
     pub fn taken(&self, origin: &str) -> Taken<'_>
         ensures { taken_left result ≡ taken_of self.now.state origin.now }
     {
-        match self.place(origin) {
+        match place_of(&self.logs, origin) {
             Some(place) => self.logs[place].pdus(),
             None => Taken::of(&[]),
         }
@@ -146,48 +156,51 @@ impl Inbox {
     pub fn taken_edus(&self, origin: &str) -> Taken<'_>
         ensures { taken_left result ≡ taken_edus_of self.now.state origin.now }
     {
-        match self.place(origin) {
+        match place_of(&self.logs, origin) {
             Some(place) => self.logs[place].edus(),
             None => Taken::of(&[]),
         }
     }
 
     // Answers, and leaves the events for the rooms as they were.
-    fn try_answer<K: Keys>(
+    fn try_answer<K: Keys, V: Vouch>(
         &mut self,
         alloc: Global,
         origin: &str,
         txn: &str,
         body: &[u8],
+        voucher: &V,
         keys: &K,
     ) -> Result<Accepted, Refusal>
         ensures tried { IsTried (K.checks keys.now) self.old.state
-            (request_of origin.now txn.now body.now) result self.new.state }
+            (request_by origin.now txn.now body.now (V.vouches voucher.now)) result self.new.state }
         ensures unlisted { log_at origin.now self.old.state.logs ≡ None → result ≡ Err Refusal.ServerNotListed }
         ensures large { IsSome (log_at origin.now self.old.state.logs) → MAX_BODY < length body.now
             → result ≡ Err Refusal.BodyTooLarge }
     {
-        let Some(place) = self.place(origin) else {
+        let Some(place) = place_of(&self.logs, origin) else {
             return Err(Refusal::ServerNotListed);
         };
         let body = read_body(alloc, body)?;
-        self.logs[place].answer(alloc, txn, body, &self.rooms, keys)
+        if !voucher.vouch(alloc, &body)? {
+            return Err(Refusal::BadSignature);
+        }
+        self.logs[place].answer(alloc, txn, body, &self.rooms, keys, &mut self.store)
     }
+}
 
-    // Where the log of an origin lies.
-    fn place(&self, origin: &str) -> Option<usize>
-        ensures place { result ≡ position (is_of origin.now) self.now.state.logs }
-        ensures within { IfSome result (λ place. place < length self.now.state.logs) }
-    {
-        self.logs
-            .binary_search_by(|log| log.origin().cmp(origin))
-            .ok()
-    }
+// Where the log of an origin lies.
+fn place_of(logs: &[Log], origin: &str) -> Option<usize>
+    requires { AreByOrigin logs.now }
+    ensures place { result ≡ position (is_from origin.now) logs.now }
+    ensures within { IfSome result (λ place. place < length logs.now) }
+{
+    logs.binary_search_by(|log| log.origin().cmp(origin)).ok()
 }
 
 // An empty log for each of the servers but `own`, in their order.
 fn logs_of(alloc: Global, own: &ServerName, servers: List) -> Result<Vec<Log>, NoMemory>
-    ensures logs { IfOk result (λ logs. logs.items ≡ logs_for own.now servers) }
+    ensures logs { IfOk result (λ logs. logs.items ≡ nothing_from_all own.now servers) }
     ensures order { IfOk result (λ logs. AreByOrigin logs.items) }
 {
     let mut logs: Vec<Log> = Vec::new(alloc);

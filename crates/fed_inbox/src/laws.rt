@@ -5,22 +5,25 @@ ghost use Rattle.serde_json.specs.Data.{Data};
 ghost use Rattle.fed_event.specs.Names.{is_one_of};
 ghost use Rattle.fed_event.specs.EventId.{event_id_of};
 ghost use Rattle.fed_event.specs.Keys.{Checks};
+ghost use Rattle.fed_replies.specs.Kept.{KeptReplies};
 ghost use Rattle.fed_inbox.specs.Inbox.{InboxState, new_inbox, log_at, taken_of, taken_edus_of};
-ghost use Rattle.fed_inbox.specs.LookUps.{log_of_new, has_id};
+ghost use Rattle.fed_inbox.specs.LookUps.{log_of_new, reply_of_new, has_id};
 ghost use Rattle.fed_inbox.specs.Taking.{verdict_on, verdicts_on};
 ghost use Rattle.fed_inbox.specs.Answer.{Request, marked_answer, marked_after, marked_fresh};
 ghost use Rattle.fed_inbox.specs.Reply.{accepted};
 ghost use Rattle.fed_inbox.specs.Runs.{Asked, answers, after_all, fresh_all, kept_reply, WasAnswered, Takes, IsForRooms, IsRepeatAnswer};
 
-/// A new inbox has an empty log for each listed server but its own and for no other server, knows just the rooms that it was given, and
-/// keeps no reply.
+/// A new inbox has a log for each listed server but its own and for no other server, of which nothing is taken, and knows just the rooms
+/// that it was given. It has the replies that its store keeps for those servers, and none where the store keeps none.
 pub fn what_a_new_inbox_knows()
-    ensures logs { (own : List ℕ) (servers rooms : List (List ℕ)) (server : List ℕ)
-        → log_at server (new_inbox own servers rooms).logs ≡ log_of_new own servers server }
-    ensures rooms { (own : List ℕ) (servers rooms : List (List ℕ)) (room : List ℕ)
-        → is_one_of (new_inbox own servers rooms).rooms room ≡ is_one_of rooms room }
-    ensures replies { (own : List ℕ) (servers rooms : List (List ℕ)) (origin txn : List ℕ)
-        → kept_reply (new_inbox own servers rooms) origin txn ≡ None }
+    ensures logs { (kept : KeptReplies) (own : List ℕ) (servers rooms : List (List ℕ)) (server : List ℕ)
+        → log_at server (new_inbox kept own servers rooms).logs ≡ log_of_new kept own servers server }
+    ensures rooms { (kept : KeptReplies) (own : List ℕ) (servers rooms : List (List ℕ)) (room : List ℕ)
+        → is_one_of (new_inbox kept own servers rooms).rooms room ≡ is_one_of rooms room }
+    ensures replies { (kept : KeptReplies) (own : List ℕ) (servers rooms : List (List ℕ)) (origin txn : List ℕ)
+        → kept_reply (new_inbox kept own servers rooms) origin txn ≡ reply_of_new kept own servers origin txn }
+    ensures none { (own : List ℕ) (servers rooms : List (List ℕ)) (origin txn : List ℕ)
+        → kept_reply (new_inbox finite.empty own servers rooms) origin txn ≡ None }
 {}
 
 /// The verdict under an id is the one on the first object of that id, and none stands under another id.

@@ -1,13 +1,15 @@
 //! What a server answers to transactions that other servers send it, and what it takes of them (Matrix, Server-Server API,
 //! "Transactions").
 //!
-//! - `inbox`: `Inbox`, which answers a request and keeps what it took
-//! - `log`: what was taken from one origin, and the replies kept for it
+//! - `inbox`: `Inbox`, which answers a request, and keeps what it took and, in a store, the replies
+//! - `log`: what was taken from one origin
 //! - `outcome`: what taking a transaction comes to: the texts of its elements, the events for the rooms and its reply
 //! - `received`, `verdict`: the verdicts on its events, each with its fault or handed on
 //! - `text_list`: texts that are kept in one piece
 //! - `taken`: `Taken`, the texts taken from an origin, one after another
 //! - `rooms`: the rooms that the server knows
+//! - `vouching`: who tells whether a request is signed
+//! - `send_path`: the transaction id in the target of a request
 //! - `reply`: `Reply`, a status and a body
 //! - `laws`: what holds of all inboxes and all lists of requests
 //! - `refusal`: `Refusal`, the table of the error replies
@@ -21,9 +23,11 @@ mod received;
 mod refusal;
 mod reply;
 mod rooms;
+mod send_path;
 mod taken;
 mod text_list;
 mod verdict;
+mod vouching;
 
 pub use inbox::Inbox;
 pub use laws::{
@@ -33,4 +37,5 @@ pub use laws::{
 };
 pub use refusal::Refusal;
 pub use reply::Reply;
+pub use send_path::txn_of;
 pub use taken::Taken;

@@ -1,8 +1,9 @@
 // What was taken from one origin.
-ghost use Rattle.std.specs.Prelude.{◌≡◌, Ok, option_map, OnOk, OnErr, IfOk};
-ghost use Rattle.std.specs.FinMap as finite;
+ghost use Rattle.std.specs.Prelude.{◌≡◌, None, OnOk, OnErr, IfOk};
+ghost use Rattle.fed_replies.specs.Kept.{reply_at};
 ghost use Rattle.fed_inbox.specs.Taken.{taken_left};
-ghost use Rattle.fed_inbox.specs.Inbox.{empty_log};
+ghost use Rattle.fed_inbox.specs.Log.{with_replies};
+ghost use Rattle.fed_inbox.specs.LogParts.{nothing_from, KeepsOthers};
 ghost use Rattle.fed_inbox.specs.Answer.{with_taking, names_other};
 ghost use Rattle.fed_inbox.specs.AnswerParts.{IsStep, IsNewStep, taken_by};
 ghost use Rattle.fed_txn.specs.Transaction.{transaction_of};
@@ -16,9 +17,9 @@ use crate::text_list::TextList;
 use fed_dest::ServerName;
 use fed_event::{Checked, Keys};
 use fed_json::{Json, NoMemory};
+use fed_replies::ReplyStore;
 use fed_txn::TransactionIn;
 use std::alloc::Global;
-use std::collections::BTreeMap;
 use std::marker::Model;
 
 /// The body of a 200, and the events that are handed on to the rooms.
@@ -28,38 +29,31 @@ pub(crate) struct Accepted {
     pub(crate) fresh: Vec<Checked>,
 }
 
-/// What was taken from one origin, in order, and the reply kept for each of its transactions.
+/// What was taken from one origin, in order.
 #[derive(Drop)]
 pub(crate) struct Log {
     origin: ServerName,
-    replies: BTreeMap<String, Vec<u8>>,
     pdus: Vec<TextList>,
     edus: Vec<TextList>,
 }
 
 impl Model for Log {
-    ghost use Rattle.std.specs.BTreeMap.{IsOrdered};
-    ghost use Rattle.std.specs.String.{string_cmp};
-    ghost use Rattle.fed_inbox.specs.Log.{LogState, log_code};
+    ghost use Rattle.fed_inbox.specs.Log.{TakenFrom, taken_from_code};
+    ghost use Rattle.fed_inbox.specs.LogParts.{taken_in};
 
-    ghost Value = { LogState };
+    ghost Value = { TakenFrom };
 
-    ghost coded = { log_code };
+    ghost coded = { taken_from_code };
 
-    ghost use Rattle.fed_inbox.specs.LogParts.{log_of};
-
-    ghost view = { log_of };
-
-    ghost invariant = { λ l. IsOrdered string_cmp l.replies };
+    ghost view = { taken_in };
 }
 
 impl Log {
     pub(crate) fn new(alloc: Global, origin: ServerName) -> Log
-        ensures { result ≡ empty_log origin }
+        ensures { result ≡ nothing_from origin }
     {
         Log {
             origin,
-            replies: BTreeMap::new(alloc),
             pdus: Vec::new(alloc),
             edus: Vec::new(alloc),
         }
@@ -83,66 +77,72 @@ impl Log {
         Taken::of(&self.edus)
     }
 
-    /// The reply that is kept for a transaction.
-    pub(crate) fn reply(&self, txn: &str) -> Option<&Vec<u8>>
-        ensures { option_map (λ v. v.now.items) result ≡ finite.get self.now.replies txn.now }
-    {
-        self.replies.get(txn)
-    }
-
-    /// Answers a transaction of this origin, whose body is this value. A refusal that memory ran out leaves the log as it was.
-    pub(crate) fn answer<K: Keys>(
+    /// Answers a transaction of this origin, whose body is this value. A refusal leaves the log and the store as they were. Replies to
+    /// other origins stay in any case.
+    pub(crate) fn answer<K: Keys, S: ReplyStore>(
         &mut self,
         alloc: Global,
         txn: &str,
         body: Json,
         rooms: &Rooms,
         keys: &K,
+        store: &mut S,
     ) -> Result<Accepted, Refusal>
-        ensures step { IsStep (K.checks keys.now) rooms.now self.old txn.now (Ok body) result self.new }
+        ensures step { IsStep (K.checks keys.now) rooms.now (with_replies (S.kept store.old) self.old) txn.now body result
+            (with_replies (S.kept store.new) self.new) }
         ensures origin { self.new.origin ≡ self.old.origin }
+        ensures others { KeepsOthers self.old.origin (S.kept store.old) (S.kept store.new) }
     {
         if names_other_origin(&body, self.origin()) {
             return Err(Refusal::OriginDiffers);
         }
-        if let Some(kept) = self.reply(txn) {
+        if let Some(reply) = store.get(alloc, self.origin(), txn)? {
             return Ok(Accepted {
-                reply: Vec::from_slice(alloc, kept)?,
+                reply,
                 fresh: Vec::new(alloc),
             });
         }
-        self.answer_new(alloc, txn, body, rooms, keys)
+        self.answer_new(alloc, txn, body, rooms, keys, store)
     }
 
     // Answers a transaction for which no reply is kept.
-    fn answer_new<K: Keys>(
+    fn answer_new<K: Keys, S: ReplyStore>(
         &mut self,
         alloc: Global,
         txn: &str,
         body: Json,
         rooms: &Rooms,
         keys: &K,
+        store: &mut S,
     ) -> Result<Accepted, Refusal>
-        ensures step { IsNewStep (K.checks keys.now) rooms.now self.old txn.now (transaction_of body) result self.new }
+        requires { reply_at (S.kept store.old) self.old.origin txn.now ≡ None }
+        ensures step { IsNewStep (K.checks keys.now) rooms.now (with_replies (S.kept store.old) self.old) txn.now (transaction_of body) result
+            (with_replies (S.kept store.new) self.new) }
         ensures origin { self.new.origin ≡ self.old.origin }
+        ensures others { KeepsOthers self.old.origin (S.kept store.old) (S.kept store.new) }
     {
         let transaction = TransactionIn::of_json(alloc, body)?;
         let outcome = Outcome::of(alloc, transaction, rooms, keys)?;
-        Ok(self.take(alloc, txn, outcome)?)
+        Ok(self.take(alloc, txn, outcome, store)?)
     }
 
-    /// Takes what a transaction came to and keeps its reply; answers a copy of it, and the events for the rooms. An error leaves
-    /// the log as it was.
-    pub(crate) fn take(
+    /// Takes what a transaction came to and keeps its reply; answers that and the events for the rooms. An error leaves the log and the
+    /// store as they were.
+    pub(crate) fn take<S: ReplyStore>(
         &mut self,
         alloc: Global,
         txn: &str,
         outcome: Outcome,
+        store: &mut S,
     ) -> Result<Accepted, NoMemory>
-        ensures ok { OnOk result (self.new ≡ with_taking self.old txn.now (taking outcome)) }
+        requires { reply_at (S.kept store.old) self.old.origin txn.now ≡ None }
+        ensures ok { OnOk result (with_replies (S.kept store.new) self.new
+            ≡ with_taking (with_replies (S.kept store.old) self.old) txn.now (taking outcome)) }
         ensures accepted { IfOk result (λ accepted. taken_by accepted
             ≡ ((taking outcome).reply, (taking outcome).fresh)) }
-        ensures err { OnErr result (self.new ≡ self.old) }
+        ensures err { OnErr result (with_replies (S.kept store.new) self.new ≡ with_replies (S.kept store.old) self.old) }
+        ensures origin { self.new.origin ≡ self.old.origin }
+        ensures others { KeepsOthers self.old.origin (S.kept store.old) (S.kept store.new) }
     {
         let Outcome {
             pdus,
@@ -150,18 +150,13 @@ impl Log {
             fresh,
             reply,
         } = outcome;
-        let answer = Vec::from_slice(alloc, &reply)?;
-        let number = String::from_str(alloc, txn)?;
         self.pdus.reserve(1)?;
         self.edus.reserve(1)?;
-        drop(self.replies.insert(number, reply)?);
+        store.keep(alloc, self.origin.as_str(), txn, &reply)?;
         // There is room for both.
         self.pdus.push(pdus).unwrap();
         self.edus.push(edus).unwrap();
-        Ok(Accepted {
-            reply: answer,
-            fresh,
-        })
+        Ok(Accepted { reply, fresh })
     }
 }
 

@@ -16,6 +16,8 @@ pub enum Refusal {
     NotJson,
     /// The body has no canonical text.
     NotCanonical,
+    /// The signature of the request does not check.
+    BadSignature,
     /// The body names another origin than the request.
     OriginDiffers,
     /// A field of the body is missing or of another kind.
@@ -39,6 +41,7 @@ impl Refusal {
         match self {
             Refusal::ServerNotListed => 403,
             Refusal::BodyTooLarge => 413,
+            Refusal::BadSignature => 401,
             Refusal::OriginDiffers => 401,
             Refusal::OutOfMemory => 500,
             Refusal::NotJson => 400,
@@ -60,6 +63,9 @@ impl Refusal {
             Refusal::BodyTooLarge => "{\"errcode\":\"M_TOO_LARGE\",\"error\":\"body too large\"}",
             Refusal::NotJson => "{\"errcode\":\"M_NOT_JSON\",\"error\":\"not json\"}",
             Refusal::NotCanonical => "{\"errcode\":\"M_BAD_JSON\",\"error\":\"not canonical\"}",
+            Refusal::BadSignature => {
+                "{\"errcode\":\"M_UNAUTHORIZED\",\"error\":\"bad signature\"}"
+            }
             Refusal::OriginDiffers => {
                 "{\"errcode\":\"M_UNAUTHORIZED\",\"error\":\"origin differs\"}"
             }

@@ -2,17 +2,24 @@
 use fed_app::InboxSetup;
 use fed_event::Trusting;
 use fed_inbox::{Inbox, Refusal};
+use fed_replies::ListStore;
 use std::alloc::Global;
 use std::test::Fail;
 
 // The inbox of b.example, which takes from a.example.
-fn inbox(alloc: Global) -> Result<Inbox, Fail> {
+fn inbox(alloc: Global) -> Result<Inbox<ListStore>, Fail> {
     let mut servers = Vec::new(alloc);
     servers.push(String::from_str(alloc, "a.example")?)?;
     let mut rooms = Vec::new(alloc);
     rooms.push(String::from_str(alloc, "!r:a.example")?)?;
     let setup = InboxSetup::read(alloc, "b.example", &servers, rooms)?;
-    Ok(Inbox::new(alloc, setup.own, setup.servers, setup.rooms)?)
+    Ok(Inbox::new(
+        alloc,
+        setup.own,
+        setup.servers,
+        setup.rooms,
+        ListStore::new(alloc),
+    )?)
 }
 
 #[test]

@@ -2,8 +2,9 @@
 //! greatest size, texts for want of memory. It has no code of its own.
 //!
 //! - `events`: ids and faults as texts
-//! - `transactions`: bodies of the greatest size, and names and faults as texts
+//! - `transactions`: bodies of the greatest size, replies that are read, and names and faults as texts
 //! - `inboxes`: a body that is too large, and the reply for want of memory
+//! - `replies`: a store of replies
 //! - `servers`: copies of lists and sets of servers
 //! - `runs`: runs over readers and writers that give and take little, fail, or never end
 #![tactic(auto)]
@@ -12,6 +13,8 @@
 mod events;
 #[cfg(test)]
 mod inboxes;
+#[cfg(test)]
+mod replies;
 #[cfg(test)]
 mod runs;
 #[cfg(test)]

@@ -1,5 +1,7 @@
-// Bodies of the greatest size, and names and faults as texts.
-use fed_txn::{BodyField, MAX_BODY, TxnFault, read, read_body};
+// Bodies of the greatest size, replies that are read, and names and faults as texts.
+use fed_txn::{
+    BodyField, MAX_BODY, ReplyFault, TxnFault, read, read_body, read_reply, write_reply,
+};
 use std::alloc::AllocError;
 use std::test::Fail;
 
@@ -40,5 +42,43 @@ fn texts(rt: HostRuntime) -> Result<(), Fail> {
         format!(in rt.alloc(); "{field}, {memory}, {large}")?.as_str(),
         "origin_server_ts, out of memory, body too large"
     );
+    Ok(())
+}
+
+// Whether a body is read as no reply.
+fn is_no_reply(rt: &HostRuntime, body: &str) -> bool {
+    read_reply(rt.alloc(), body.as_bytes()).err() == Some(ReplyFault::NotReply)
+}
+
+#[test]
+fn replies_are_read(rt: HostRuntime) -> Result<(), Fail> {
+    let alloc = rt.alloc();
+    let one = read_reply(alloc, b"{\"pdus\":{\"$x\":{}}}")?;
+    assert_eq!(rt; one.len(), 1);
+    assert_eq!(rt; one.get("$x"), Some(None));
+    let two = read_reply(
+        alloc,
+        b"{\"more\":[1],\"pdus\":{\"$x\":{\"code\":2},\"$y\":{\"error\":\"no\"}}}",
+    )?;
+    assert_eq!(rt; two.get("$x"), Some(None));
+    assert_eq!(rt; two.get("$y"), Some(Some("no")));
+    assert_eq!(rt; two.get("$z"), None);
+    let text = write_reply(alloc, &two)?;
+    assert_eq!(rt;
+        text.as_slice(),
+        b"{\"pdus\":{\"$x\":{},\"$y\":{\"error\":\"no\"}}}".as_slice()
+    );
+    Ok(())
+}
+
+#[test]
+fn no_replies(rt: HostRuntime) -> Result<(), Fail> {
+    assert!(rt; is_no_reply(&rt, "{}"));
+    assert!(rt; is_no_reply(&rt, "not json"));
+    assert!(rt; is_no_reply(&rt, "{\"pdus\":[]}"));
+    assert!(rt; is_no_reply(&rt, "{\"pdus\":{\"$x\":null}}"));
+    assert!(rt; is_no_reply(&rt, "{\"pdus\":{\"$x\":{\"error\":1}}}"));
+    assert!(rt; is_no_reply(&rt, "{\"pdus\":{},\"time\":1.5}"));
+    assert!(rt; !is_no_reply(&rt, "{\"pdus\":{}}"));
     Ok(())
 }

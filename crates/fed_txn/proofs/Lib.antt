@@ -4,3 +4,4 @@ pub mod Replies
 pub mod Bodies
 mod BodyText
 mod SentBodies
+pub mod RepliesRead

@@ -47,7 +47,7 @@ verdict_rises : (v : Option (List ℕ)) → keys_rise (verdict_value v) ≡ true
 verdict_rises None = refl
 verdict_rises (Some text) = rw text_error
 
-verdicts_whole : (es : List Verdict) → members_whole (verdict_members es) ≡ true
+pub verdicts_whole : (es : List Verdict) → members_whole (verdict_members es) ≡ true
 verdicts_whole [] = refl
 verdicts_whole (e ∷ es) = rw (verdict_whole e.1) (verdicts_whole es)
 

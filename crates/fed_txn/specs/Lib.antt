@@ -8,3 +8,5 @@ pub mod Form
 pub mod Writing
 pub mod ArrayText
 pub mod WritingParts
+pub mod ReplyReading
+pub mod ReplyReadingParts

@@ -4,6 +4,7 @@ ghost use Rattle.std.specs.FinMap as map;
 ghost use Rattle.serde_json.specs.Data.{object};
 ghost use Rattle.fed_json.specs.CanonicalText.{canonical_text, IsCanonicalText};
 ghost use Rattle.fed_txn.specs.Verdicts.{HasTextIds};
+ghost use Rattle.fed_txn.specs.ReplyReading.{IsReply};
 ghost use Rattle.fed_txn.specs.Reply.{reply_value, verdict_value, verdict_members};
 
 use crate::verdicts::Verdicts;
@@ -11,12 +12,13 @@ use fed_json::{Json, NoMemory, canonical};
 use std::alloc::Global;
 
 /// The body of the reply to a transaction: the canonical text of `{"pdus":{..}}`, in which each event id has `{}`, or
-/// `{"error":text}` where the event was refused (Server-Server API, "Transactions").
+/// `{"error":text}` where the event was refused (Server-Server API, "Transactions"). `read_reply` reads it as these verdicts.
 pub fn write_reply(alloc: Global, verdicts: &Verdicts) -> Result<Vec<u8>, NoMemory>
     ensures exact { IfOk result (λ text. text.items ≡ canonical_text (reply_value verdicts.now)) }
     ensures canonical { IfOk result
         (λ text. IsCanonicalText (reply_value verdicts.now) text.items) }
     ensures ids { HasTextIds verdicts.now }
+    ensures read { IfOk result (λ text. IsReply text.items verdicts.now) }
 {
     let members = members_of(alloc, verdicts)?;
     let mut reply = Json::empty_object(alloc);

@@ -90,9 +90,9 @@ impl Verdicts {
         Ok(())
     }
 
-    // The verdicts in the order of their ids.
+    /// The ids with their verdicts, in the order of the bytes of the ids.
     #[tactic(auto, using(crate::proofs::Entries::entries_map_of, crate::proofs::Entries::ids_map_of))]
-    pub(crate) fn iter(&self) -> Iter<'_, String, Option<String>>
+    pub fn iter(&self) -> Iter<'_, String, Option<String>>
         ensures entries { map_list entry_bytes result ≡ map.entries self.now }
         ensures ids { HasTextIds self.now }
     {

@@ -7,8 +7,8 @@ use fed_dest::{MAX_SERVERS, ServerIndex, ServerSet};
 use fed_json::{Items, Json, JsonRef, Members, canonical};
 use std::alloc::Global;
 
-// The last moment that an event or a transaction can have.
-const LAST_MOMENT: u64 = (1 << 53) - 1;
+/// The last moment that an event or a transaction can have.
+pub(crate) const LAST_MOMENT: u64 = (1 << 53) - 1;
 
 /// The members of an object that a line gives: the call itself, or an object in one of its lists.
 #[derive(Clone, Copy)]

@@ -27,22 +27,37 @@ pub(crate) fn event(call: Arguments<'_>) -> Answer {
 pub(crate) fn fields(call: Arguments<'_>) -> Answer {
     let alloc = call.alloc;
     let event = event_given(call)?;
-    let fields = Object::new(alloc)
+    let fields = with_texts(
+        alloc,
+        with_values(alloc, Object::new(alloc), &event),
+        &event,
+    );
+    match event.state_key() {
+        Some(state_key) => fields
+            .with("state_key", text(alloc, state_key))
+            .into_answer(),
+        None => fields.into_answer(),
+    }
+}
+
+// With the fields that are objects, lists and numbers.
+fn with_values(alloc: Global, fields: Object, event: &Pdu) -> Object {
+    fields
         .with("auth_events", named(alloc, event.auth_events()))
         .with("content", copy(event.content()))
         .with("depth", number(alloc, event.depth()))
         .with("hashes", copy(event.hashes()))
         .with("origin_server_ts", number(alloc, event.origin_server_ts()))
         .with("prev_events", named(alloc, event.prev_events()))
+        .with("signatures", copy(event.signatures()))
+}
+
+// With the fields that are texts.
+fn with_texts(alloc: Global, fields: Object, event: &Pdu) -> Object {
+    fields
         .with("room_id", text(alloc, event.room_id()))
         .with("sender", text(alloc, event.sender()))
-        .with("signatures", copy(event.signatures()))
-        .with("type", text(alloc, event.kind()));
-    let fields = match event.state_key() {
-        Some(state_key) => fields.with("state_key", text(alloc, state_key)),
-        None => fields,
-    };
-    fields.into_answer()
+        .with("type", text(alloc, event.kind()))
 }
 
 // The ids that an event names.
@@ -68,9 +83,13 @@ fn event_given(call: Arguments<'_>) -> Result<Pdu, Stop> {
 
 pub(crate) fn check_in(call: Arguments<'_>) -> Answer {
     let keys = call.keys(call.text("own")?)?;
-    let checked = checked_in(call.alloc, &keys, call.value("value")?)?.copy(call.alloc)?;
-    Object::new(call.alloc)
-        .with("authorised", truth(call.alloc, checked.is_authorised()))
+    let checked = checked_in(call.alloc, &keys, call.value("value")?)?;
+    told_of(call.alloc, &checked.copy(call.alloc)?)
+}
+
+fn told_of(alloc: Global, checked: &Checked) -> Answer {
+    Object::new(alloc)
+        .with("authorised", truth(alloc, checked.is_authorised()))
         .with("event", copy(checked.event().json().root()))
         .into_answer()
 }

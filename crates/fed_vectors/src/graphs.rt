@@ -34,9 +34,13 @@ pub(crate) fn auth_state(call: Arguments<'_>) -> Answer {
 
 fn auth_state_in(call: Arguments<'_>, keys: &KeyRing, graph: &Graph) -> Answer {
     let event = event(call, keys)?;
-    match fed_auth::auth_state(call.alloc, graph, event.event())? {
-        Ok(state) => places_of(call.alloc, graph, &state),
-        Err(rule) => Err(rejected(call.alloc, rule)),
+    auth_places(call.alloc, graph, event.event())
+}
+
+fn auth_places(alloc: Global, graph: &Graph, event: &Pdu) -> Answer {
+    match fed_auth::auth_state(alloc, graph, event)? {
+        Ok(state) => places_of(alloc, graph, &state),
+        Err(rule) => Err(rejected(alloc, rule)),
     }
 }
 
@@ -94,14 +98,21 @@ pub(crate) fn wrong_event(alloc: Global, place: &str, stop: Stop) -> Stop {
     }
 }
 
+/// That the event at this place of a list is refused, where an error says so.
+pub(crate) fn wrong_event_at(alloc: Global, list: &str, place: usize, stop: Stop) -> Stop {
+    match format!(in alloc; "{list} {place}") {
+        Ok(place) => wrong_event(alloc, &place, stop),
+        Err(_) => Stop::Memory,
+    }
+}
+
 /// The events of `graph`, stored in their order.
 pub(crate) fn graph(call: Arguments<'_>, keys: &KeyRing) -> Result<Graph, Stop> {
     let mut graph = Graph::new(call.alloc);
     for item in call.items("graph")? {
         let row = Arguments::of(call.alloc, item, "graph")?;
         if let Err(stop) = store(row, &mut graph, keys) {
-            let place = format!(in call.alloc; "graph {}", graph.len())?;
-            return Err(wrong_event(call.alloc, &place, stop));
+            return Err(wrong_event_at(call.alloc, "graph", graph.len(), stop));
         }
     }
     Ok(graph)

@@ -8,6 +8,7 @@ use fed_app::{InboxSetup, SetupFault, inbox_run};
 use fed_event::Checked;
 use fed_inbox::{Inbox, Reply};
 use fed_json::Json;
+use fed_replies::ListStore;
 use std::alloc::Global;
 
 /// What an inbox answers to the requests, and what it took.
@@ -17,7 +18,7 @@ pub(crate) fn inbox(call: Arguments<'_>) -> Answer {
         servers,
         rooms,
     } = setup(call)?;
-    let mut inbox = Inbox::new(call.alloc, own, servers, rooms)?;
+    let mut inbox = Inbox::new(call.alloc, own, servers, rooms, ListStore::new(call.alloc))?;
     let answers = answers(call, &mut inbox)?;
     with_taken(call, answers, &inbox)
 }
@@ -34,7 +35,7 @@ fn setup(call: Arguments<'_>) -> Result<InboxSetup, Stop> {
 }
 
 // The answers, and what was taken from each server.
-fn with_taken(call: Arguments<'_>, answers: Json, inbox: &Inbox) -> Answer {
+fn with_taken(call: Arguments<'_>, answers: Json, inbox: &Inbox<ListStore>) -> Answer {
     let mut pdus = Object::new(call.alloc);
     let mut edus = Object::new(call.alloc);
     for server in &call.strings("servers")? {
@@ -48,7 +49,7 @@ fn with_taken(call: Arguments<'_>, answers: Json, inbox: &Inbox) -> Answer {
         .into_answer()
 }
 
-fn answers(call: Arguments<'_>, inbox: &mut Inbox) -> Answer {
+fn answers(call: Arguments<'_>, inbox: &mut Inbox<ListStore>) -> Answer {
     let keys = call.keys(call.text("own")?)?;
     let mut answers = List::new(call.alloc);
     for item in call.items("requests")? {
@@ -59,7 +60,7 @@ fn answers(call: Arguments<'_>, inbox: &mut Inbox) -> Answer {
 }
 
 // The answer to a request, and the events that it hands out.
-fn answer(request: Arguments<'_>, inbox: &mut Inbox, keys: &KeyRing) -> Answer {
+fn answer(request: Arguments<'_>, inbox: &mut Inbox<ListStore>, keys: &KeyRing) -> Answer {
     let leaves = request.is_set("leave")?;
     let told = told_of(request.alloc, &reply(request, inbox, keys)?);
     if leaves {
@@ -69,7 +70,11 @@ fn answer(request: Arguments<'_>, inbox: &mut Inbox, keys: &KeyRing) -> Answer {
     told.with("fresh", fresh).into_answer()
 }
 
-fn reply(request: Arguments<'_>, inbox: &mut Inbox, keys: &KeyRing) -> Result<Reply, Stop> {
+fn reply(
+    request: Arguments<'_>,
+    inbox: &mut Inbox<ListStore>,
+    keys: &KeyRing,
+) -> Result<Reply, Stop> {
     let body = request.body()?;
     let sent = Request {
         origin: request.text("origin")?,

@@ -4,8 +4,10 @@ use fed_event::{
     CheckFault, Checked, EventId, Keys, Pdu, PduFault, StandIn, Trusting, check_in, is_sent_by,
     is_signed_by, seal, signed_text,
 };
+use fed_http::signed_request;
 use fed_inbox::{Inbox, Reply};
 use fed_json::{Json, NoMemory};
+use fed_replies::ListStore;
 use fed_room_contract::{Draft, Refusal, RoomEngine};
 use std::alloc::Global;
 
@@ -92,13 +94,31 @@ impl KeyRing {
     pub(crate) fn answer_body(
         &self,
         alloc: Global,
-        inbox: &mut Inbox,
+        inbox: &mut Inbox<ListStore>,
         request: Request<'_>,
     ) -> Reply {
         let Request { origin, txn, body } = request;
         match self {
             KeyRing::StandIn(keys) => inbox.answer_body(alloc, origin, txn, body, keys),
             KeyRing::Trusting(keys) => inbox.answer_body(alloc, origin, txn, body, keys),
+        }
+    }
+
+    /// The request that sends a transaction to a server, signed.
+    pub(crate) fn signed_request(
+        &self,
+        alloc: Global,
+        target: &str,
+        destination: &str,
+        body: Vec<u8>,
+    ) -> Result<fed_http::Request, NoMemory> {
+        match self {
+            KeyRing::StandIn(keys) => {
+                signed_request(alloc, "PUT", target, destination, body, keys)
+            }
+            KeyRing::Trusting(keys) => {
+                signed_request(alloc, "PUT", target, destination, body, keys)
+            }
         }
     }
 

@@ -4,8 +4,8 @@ use crate::answer::{Answer, Stop};
 use crate::arguments::Arguments;
 use crate::made::Object;
 use crate::{
-    events, graphs, inboxes, journals, outboxes, servers, signatures, table_rooms, transactions,
-    values,
+    events, graphs, inboxes, journals, outboxes, requests, servers, signatures, streams,
+    table_rooms, transactions, values,
 };
 use fed_json::{Json, MAX_LEVELS, canonical, read_within};
 use std::alloc::Global;
@@ -85,6 +85,19 @@ fn answer_sending_call(name: &str, call: Arguments<'_>) -> Answer {
         "journal" => journals::journal(call),
         "outbox" => outboxes::outbox(call),
         "write" => transactions::write(call),
+        _ => answer_message_call(name, call),
+    }
+}
+
+// The calls on messages that servers send each other.
+fn answer_message_call(name: &str, call: Arguments<'_>) -> Answer {
+    match name {
+        "read_reply" => transactions::read_reply(call),
+        "stream" => streams::stream(call),
+        "x_matrix" => requests::x_matrix(call),
+        "request_text" => requests::request_text(call),
+        "write_request" => requests::written_request(call),
+        "write_reply" => requests::written_reply(call),
         _ => Err(Stop::wrong(String::from_str(call.alloc, "unknown call"))),
     }
 }

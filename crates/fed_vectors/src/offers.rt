@@ -3,7 +3,7 @@
 use crate::answer::Stop;
 use crate::arguments::Arguments;
 use crate::events::checked_in;
-use crate::graphs::wrong_event;
+use crate::graphs::wrong_event_at;
 use fed_event::Checked;
 use fed_json::Json;
 use std::alloc::Global;
@@ -71,10 +71,7 @@ fn events(call: Arguments<'_>) -> Result<Vec<Checked>, Stop> {
     for item in call.items("events")? {
         match checked_in(call.alloc, &keys, item.to_json()?) {
             Ok(event) => events.push(event)?,
-            Err(stop) => {
-                let place = format!(in call.alloc; "events {}", events.len())?;
-                return Err(wrong_event(call.alloc, &place, stop));
-            }
+            Err(stop) => return Err(wrong_event_at(call.alloc, "events", events.len(), stop)),
         }
     }
     Ok(events)

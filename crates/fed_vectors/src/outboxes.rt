@@ -1,7 +1,7 @@
 // Calls on outboxes.
 
 use crate::answer::{Answer, Stop};
-use crate::arguments::Arguments;
+use crate::arguments::{Arguments, LAST_MOMENT};
 use crate::made::{List, Object, count, event_ids, list_of, null, text, truth};
 use crate::offers::Offers;
 use fed_dest::ServerIndex;
@@ -9,9 +9,6 @@ use fed_journal::{Load, MAX_ENTRIES, Parcel, Place};
 use fed_json::Json;
 use fed_outbox::{Outbox, OutboxFault, Settlement, Transaction};
 use std::alloc::Global;
-
-// The last moment that a transaction can have.
-const LAST_MOMENT: u64 = (1 << 53) - 1;
 
 /// What an outbox answers to the operations, and what can be seen of it afterwards.
 pub(crate) fn outbox(call: Arguments<'_>) -> Answer {

@@ -2,6 +2,7 @@
 
 use crate::answer::{Answer, Stop};
 use crate::arguments::Arguments;
+use crate::key_ring::KeyRing;
 use crate::made::List;
 use crate::room_steps::{step, with_room};
 use crate::verdicts::verdict_in;
@@ -9,30 +10,45 @@ use fed_event::event_id;
 use fed_json::{Items, JsonRef};
 use fed_room::{Table, TableRoom};
 use fed_room_contract::State;
+use std::alloc::Global;
 
 /// What becomes of a room with each operation.
 pub(crate) fn table_room(call: Arguments<'_>) -> Answer {
     let keys = call.keys(call.text("own")?)?;
     let mut room = TableRoom::new(call.alloc, table(call)?);
-    let mut told = List::new(call.alloc);
+    answers(call, &keys, &mut room)
+}
+
+fn answers(call: Arguments<'_>, keys: &KeyRing, room: &mut TableRoom) -> Answer {
+    let mut answers = List::new(call.alloc);
     for item in call.items("operations")? {
-        let operation = Arguments::of(call.alloc, item, "operations")?;
-        let answer = step(operation.only_name()?, operation, &mut room, &keys);
-        told = told.with(with_room(call.alloc, answer, &room));
+        answers = answers.with(answer(call.alloc, item, keys, room));
     }
-    told.into_answer()
+    answers.into_answer()
+}
+
+// The answer to an operation, and what can be seen of the room behind it.
+fn answer(alloc: Global, item: JsonRef<'_>, keys: &KeyRing, room: &mut TableRoom) -> Answer {
+    let operation = Arguments::of(alloc, item, "operations")?;
+    let answer = step(operation.only_name()?, operation, room, keys);
+    with_room(alloc, answer, room)
 }
 
 fn table(call: Arguments<'_>) -> Result<Table, Stop> {
     let mut table = Table::new(call.alloc, state(call, "current")?);
     for item in call.items("rows")? {
-        let row = Arguments::of(call.alloc, item, "rows")?;
-        let Some(verdict) = verdict_in(row.text("verdict")?) else {
-            return Err(row.wrong_kind("verdict"));
-        };
-        table.insert(call.alloc, row.text("id")?, verdict, state(row, "before")?)?;
+        enter(Arguments::of(call.alloc, item, "rows")?, &mut table)?;
     }
     Ok(table)
+}
+
+// Enters a row.
+fn enter(row: Arguments<'_>, table: &mut Table) -> Result<(), Stop> {
+    let Some(verdict) = verdict_in(row.text("verdict")?) else {
+        return Err(row.wrong_kind("verdict"));
+    };
+    table.insert(row.alloc, row.text("id")?, verdict, state(row, "before")?)?;
+    Ok(())
 }
 
 // A copy of the state of a list of entries `[type, state key, value]`, at each of which the id of the value stands.

@@ -2,11 +2,12 @@
 
 use crate::answer::{Answer, Stop};
 use crate::arguments::Arguments;
-use crate::made::{Object, list_of, number, text_of_bytes};
+use crate::made::{Object, list_of, null, number, text, text_of_bytes};
 use crate::offers::Offers;
 use fed_json::{Json, JsonRef};
 use fed_outbox::Transaction;
-use fed_txn::{TransactionIn, Verdicts, write_reply};
+use fed_txn::{ReplyFault, TransactionIn, Verdicts, write_reply};
+use std::alloc::Global;
 
 pub(crate) fn transaction(call: Arguments<'_>) -> Answer {
     let alloc = call.alloc;
@@ -56,6 +57,27 @@ pub(crate) fn reply(call: Arguments<'_>) -> Answer {
         verdicts.insert(String::from_str(call.alloc, id)?, error)?;
     }
     text_of_bytes(call.alloc, &write_reply(call.alloc, &verdicts)?)
+}
+
+/// The verdicts of a reply: of each id null, or the text of an error.
+pub(crate) fn read_reply(call: Arguments<'_>) -> Answer {
+    match fed_txn::read_reply(call.alloc, &call.bytes()?) {
+        Ok(verdicts) => told_of(call.alloc, &verdicts),
+        Err(ReplyFault::Memory) => Err(Stop::Memory),
+        Err(fault) => Err(Stop::error(format!(in call.alloc; "{fault}"))),
+    }
+}
+
+fn told_of(alloc: Global, verdicts: &Verdicts) -> Answer {
+    let mut told = Object::new(alloc);
+    for (id, error) in verdicts.iter() {
+        let verdict = match error {
+            Some(error) => text(alloc, error),
+            None => null(alloc),
+        };
+        told = told.with(id, verdict);
+    }
+    told.into_answer()
 }
 
 // The id, and perhaps the error, of `[id]` or `[id, error]`.

@@ -1,13 +1,22 @@
-use Rattle.std.proofs.Common.{ap, sym, ◌∙◌, get_or}
-use Rattle.fed_inbox.specs.Inbox.{Held, pdus_by}
+use Rattle.std.proofs.Common.{◌≡◌, ◌<◌, List, None, Some, length, ap, sym, subst, ◌∙◌}
+use Rattle.std.specs.List.{position}
+use Rattle.fed_inbox.specs.Log.{TakenFrom}
+use Rattle.fed_inbox.specs.LogParts.{is_from}
+use Rattle.fed_inbox.specs.Inbox.{Held, pdus_by, taken_of}
 use Rattle.fed_inbox.proofs.Places.{log_found, log_missing}
 use Rattle.fed_inbox.proofs.inbox.Inbox.taken.Goals as goal
 
 pub returns-in-Some : goal.returns-in-Some
-returns-in-Some c =
+returns-in-Some g c =
     let origin = c.args.origin.now in
-    let found = log_found origin c.args.self.now.state.logs c.in-Some.place c.index.result.now c.in-Some.ensures.place c.in-Some.ensures.within (c.index.ensures ∙ ap (λ (h : Held). get_or h.state.logs c.in-Some.place c.index.result.now) c.self.view_is) in
-    c.pdus.ensures ∙ ap pdus_by (sym found)
+    let logs = c.self.inside.logs.items in
+    let place = subst (λ (ls : List TakenFrom). Some c.in-Some.place ≡ position (is_from origin) ls) c.deref.ensures.value c.in-Some.ensures.place in
+    let within = subst (λ (ls : List TakenFrom). c.in-Some.place < length ls) c.deref.ensures.value c.in-Some.ensures.within in
+    let found = log_found (g.S.ReplyStore.kept c.self.inside.store) origin logs c.in-Some.place c.index.result.now place within c.index.ensures in
+    c.pdus.ensures ∙ ap pdus_by (sym found) ∙ ap (λ (h : Held). taken_of h.state origin) c.self.view_is
 
 pub returns-in-None : goal.returns-in-None
-returns-in-None c = c.of.ensures ∙ ap pdus_by (sym (log_missing c.args.origin.now c.args.self.now.state.logs c.in-None.ensures.place))
+returns-in-None g c =
+    let origin = c.args.origin.now in
+    let place = subst (λ (ls : List TakenFrom). None ≡ position (is_from origin) ls) c.deref.ensures.value c.in-None.ensures.place in
+    c.of.ensures ∙ ap pdus_by (sym (log_missing (g.S.ReplyStore.kept c.self.inside.store) origin c.self.inside.logs.items place)) ∙ ap (λ (h : Held). taken_of h.state origin) c.self.view_is

@@ -15,6 +15,9 @@ returns-in-BodyTooLarge c = ap text (sym c.in-BodyTooLarge.is)
 pub returns-in-NotCanonical : goal.returns-in-NotCanonical
 returns-in-NotCanonical c = ap text (sym c.in-NotCanonical.is)
 
+pub returns-in-BadSignature : goal.returns-in-BadSignature
+returns-in-BadSignature c = ap text (sym c.in-BadSignature.is)
+
 pub returns-in-OriginDiffers : goal.returns-in-OriginDiffers
 returns-in-OriginDiffers c = ap text (sym c.in-OriginDiffers.is)
 

@@ -1,0 +1,36 @@
+// The lines of the input.
+use crate::reading::Reading;
+
+/// What a line asks for.
+#[derive(Clone, Copy)]
+pub(crate) enum Line {
+    Send(u64),
+    Read(Reading),
+}
+
+/// What a line asks for, where it has the right words.
+pub(crate) fn line_of(line: &str) -> Option<Line> {
+    let (name, words) = line.split_once(' ')?;
+    match name {
+        "send" => Some(Line::Send(words.parse().ok()?)),
+        "read" => Some(Line::Read(reading_of(words)?)),
+        _ => None,
+    }
+}
+
+fn reading_of(words: &str) -> Option<Reading> {
+    let (coding, numbers) = words.split_once(' ')?;
+    let (size, numbers) = numbers.split_once(' ')?;
+    let (piece, times) = numbers.split_once(' ')?;
+    let chunked = match coding {
+        "whole" => false,
+        "chunked" => true,
+        _ => return None,
+    };
+    Some(Reading {
+        chunked,
+        size: size.parse().ok()?,
+        piece: piece.parse().ok()?,
+        times: times.parse().ok()?,
+    })
+}

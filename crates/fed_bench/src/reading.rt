@@ -1,0 +1,95 @@
+// From the bytes of requests to the requests.
+use crate::stop::Stop;
+use fed_http::{HttpFault, Reader};
+use std::alloc::Global;
+
+// The most bytes of a chunk.
+const CHUNK: usize = 65_536;
+
+/// What is read: a request whose body has so many bytes, in chunks or not, so many times, in pieces of so many bytes.
+#[derive(Clone, Copy)]
+pub(crate) struct Reading {
+    pub(crate) chunked: bool,
+    pub(crate) size: usize,
+    pub(crate) piece: usize,
+    pub(crate) times: usize,
+}
+
+/// How many requests were read.
+pub(crate) fn read(alloc: Global, reading: Reading) -> Result<u64, Stop> {
+    let text = text_of(alloc, reading)?;
+    let mut reader = Reader::requests(alloc);
+    let mut count = 0u64;
+    for _ in 0..reading.times {
+        count = count.saturating_add(read_once(alloc, &mut reader, &text, reading.piece)?);
+    }
+    Ok(count)
+}
+
+// Feeds the text, and counts its requests.
+fn read_once(alloc: Global, reader: &mut Reader, text: &[u8], piece: usize) -> Result<u64, Stop> {
+    let mut count = 0u64;
+    let mut left = text;
+    for _ in text {
+        if left.is_empty() {
+            break;
+        }
+        let next = left.get(..piece).unwrap_or(left);
+        match reader.feed(alloc, next) {
+            Ok((message, used)) => {
+                count = count.saturating_add(u64::from(message.is_some()));
+                left = left.get(used..).unwrap_or(b"");
+            }
+            Err(HttpFault::Memory) => return Err(Stop::Memory),
+            Err(_) => return Err(Stop::Refused),
+        }
+    }
+    Ok(count)
+}
+
+fn text_of(alloc: Global, reading: Reading) -> Result<Vec<u8>, Stop> {
+    if reading.chunked {
+        in_chunks(alloc, reading.size)
+    } else {
+        whole(alloc, reading.size)
+    }
+}
+
+// The request with its length.
+fn whole(alloc: Global, size: usize) -> Result<Vec<u8>, Stop> {
+    let head = format!(in alloc; "PUT /p HTTP/1.1\r\nContent-Length: {size}\r\n\r\n")?;
+    let mut text = Vec::from_slice(alloc, head.as_bytes())?;
+    for _ in 0..size {
+        text.push(b'a')?;
+    }
+    Ok(text)
+}
+
+// The request in chunks.
+fn in_chunks(alloc: Global, size: usize) -> Result<Vec<u8>, Stop> {
+    let mut text = Vec::from_slice(
+        alloc,
+        b"PUT /p HTTP/1.1\r\nTransfer-Encoding: chunked\r\n\r\n",
+    )?;
+    for place in 0..size {
+        if place % CHUNK == 0 {
+            begin_chunk(alloc, &mut text, place, size)?;
+        }
+        text.push(b'a')?;
+    }
+    if size > 0 {
+        text.extend_from_slice(b"\r\n")?;
+    }
+    text.extend_from_slice(b"0\r\n\r\n")?;
+    Ok(text)
+}
+
+// The line of the chunk that begins at this place of the body, behind the end of the chunk before.
+fn begin_chunk(alloc: Global, text: &mut Vec<u8>, place: usize, size: usize) -> Result<(), Stop> {
+    if place > 0 {
+        text.extend_from_slice(b"\r\n")?;
+    }
+    let count = size.saturating_sub(place).min(CHUNK);
+    text.extend_from_slice(format!(in alloc; "{count:x}\r\n")?.as_bytes())?;
+    Ok(())
+}
