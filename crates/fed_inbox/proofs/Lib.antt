@@ -10,3 +10,5 @@ pub mod RoomSets
 pub mod Entering
 pub mod LookUps
 pub mod Origins
+pub mod Incomings
+pub mod Wholes

@@ -10,7 +10,7 @@ use Rattle.fed_json.specs.TextMap.{TextMap}
 use Rattle.fed_event.specs.Keys.{Checks}
 use Rattle.fed_event.specs.Checked.{CheckedEvent}
 use Rattle.fed_inbox.specs.declared.refusal.Refusal.{Refusal}
-use Rattle.fed_inbox.specs.declared.refusal.Refusal.TheVariants.{ServerNotListed, BodyTooLarge, NotJson, NotCanonical, BadSignature, OriginDiffers, BadField, TooManyPdus, TooManyEdus, OutOfMemory}
+use Rattle.fed_inbox.specs.declared.refusal.Refusal.TheVariants.{NoSuchPath, MethodNotAllowed, BadAuthorization, WrongDestination, ServerNotListed, BodyTooLarge, NotJson, NotCanonical, BadSignature, OriginDiffers, BadField, TooManyPdus, TooManyEdus, OutOfMemory}
 use Rattle.fed_inbox.specs.Reply.{Answer, accepted, refused}
 use Rattle.fed_inbox.specs.Log.{LogState}
 use Rattle.fed_inbox.specs.Taking.{taking_of}
@@ -32,6 +32,10 @@ one_reply : (a b : List ℕ) → Some a ≡ Some b → a ≡ b
 one_reply a b e = cc
 
 not_refused : (refusal : Refusal) → (refused refusal).status ≡ 200 → ⊥
+not_refused NoSuchPath e = absurd (omega arith)
+not_refused MethodNotAllowed e = absurd (omega arith)
+not_refused BadAuthorization e = absurd (omega arith)
+not_refused WrongDestination e = absurd (omega arith)
 not_refused ServerNotListed e = absurd (omega arith)
 not_refused BodyTooLarge e = absurd (omega arith)
 not_refused NotJson e = absurd (omega arith)

@@ -24,11 +24,11 @@ use Rattle.std.specs.List.{position}
 use Rattle.fed_inbox.proofs.FoundLogs.{found_is, put_back}
 use Rattle.fed_inbox.proofs.Places.{log_found, log_set}
 
-answer_of_err : (r : Result Accepted Refusal) (x : Refusal) → IsErrAnd r (λ y. y ≡ x) → answer_with r ≡ refused x
+pub answer_of_err : (r : Result Accepted Refusal) (x : Refusal) → IsErrAnd r (λ y. y ≡ x) → answer_with r ≡ refused x
 answer_of_err (Ok a) x h = absurd h
 answer_of_err (Err y) x h = ap refused h
 
-fresh_of_err : (r : Result Accepted Refusal) (x : Refusal) → IsErrAnd r (λ y. y ≡ x) → fresh_with r ≡ []
+pub fresh_of_err : (r : Result Accepted Refusal) (x : Refusal) → IsErrAnd r (λ y. y ≡ x) → fresh_with r ≡ []
 fresh_of_err (Ok a) x h = absurd h
 fresh_of_err (Err y) x h = refl
 

@@ -1,6 +1,5 @@
 pub mod Refusal
 pub mod Reply
-pub mod ReplyParts
 pub mod Log
 pub mod TextList
 pub mod Taken
@@ -17,3 +16,5 @@ pub mod AnswerParts
 pub mod Runs
 pub mod LookUps
 pub mod SendPath
+pub mod WholeRequest
+pub mod IncomingParts

@@ -4,7 +4,7 @@ use Rattle.fed_txn.specs.declared.fault.TxnFault.{TxnFault}
 use Rattle.fed_txn.specs.declared.fault.TxnFault.TheVariants as fault
 use Rattle.fed_txn.specs.Fault.{field_name}
 use Rattle.fed_inbox.specs.declared.refusal.Refusal.{Refusal}
-use Rattle.fed_inbox.specs.declared.refusal.Refusal.TheVariants.{ServerNotListed, BodyTooLarge, NotJson, NotCanonical, BadSignature, OriginDiffers, BadField, TooManyPdus, TooManyEdus, OutOfMemory}
+use Rattle.fed_inbox.specs.declared.refusal.Refusal.TheVariants.{NoSuchPath, MethodNotAllowed, BadAuthorization, WrongDestination, ServerNotListed, BodyTooLarge, NotJson, NotCanonical, BadSignature, OriginDiffers, BadField, TooManyPdus, TooManyEdus, OutOfMemory}
 
 pub record ErrorReply : Type 0 where
   pub status : ℕ
@@ -15,6 +15,10 @@ abbrev pub row : ℕ → List ℕ → List ℕ → ErrorReply
 row status errcode error = record { status = status; errcode = errcode; error = error }
 
 abbrev pub error_reply : Refusal → ErrorReply
+error_reply NoSuchPath = row 404 (codes "M_UNRECOGNIZED") (codes "no such path")
+error_reply MethodNotAllowed = row 405 (codes "M_UNRECOGNIZED") (codes "method not allowed")
+error_reply BadAuthorization = row 401 (codes "M_UNAUTHORIZED") (codes "bad authorization")
+error_reply WrongDestination = row 401 (codes "M_UNAUTHORIZED") (codes "wrong destination")
 error_reply ServerNotListed = row 403 (codes "M_FORBIDDEN") (codes "server not listed")
 error_reply BodyTooLarge = row 413 (codes "M_TOO_LARGE") (codes "body too large")
 error_reply NotJson = row 400 (codes "M_NOT_JSON") (codes "not json")

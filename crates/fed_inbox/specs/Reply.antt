@@ -1,11 +1,8 @@
--- What is answered: a status and the bytes of a body.
+-- What is answered: the reply to a transaction, or an error reply.
 use Rattle.std.specs.Prelude.{ℕ, List}
+pub use Rattle.fed_http.specs.Message.{Answer}
 use Rattle.fed_inbox.specs.declared.refusal.Refusal.{Refusal}
 use Rattle.fed_inbox.specs.Refusal.{error_reply, error_body}
-
-pub record Answer : Type 0 where
-  pub status : ℕ
-  pub body : List ℕ
 
 abbrev pub accepted : List ℕ → Answer
 accepted body = record { status = 200; body = body }

@@ -1,5 +1,5 @@
 // The inbox of a server.
-ghost use Rattle.std.specs.Prelude.{◌≡◌, ◌<◌, [], None, Err, map, length, position, string_bytes, IfOk, IfSome, IsSome};
+ghost use Rattle.std.specs.Prelude.{◌≡◌, ◌<◌, [], None, Option, Err, map, length, position, string_bytes, IfOk, IfSome, IsSome};
 ghost use Rattle.fed_event.specs.Names.{is_one_of};
 ghost use Rattle.fed_inbox.specs.Taken.{taken_left};
 ghost use Rattle.fed_inbox.specs.Reply.{refused};
@@ -7,17 +7,21 @@ ghost use Rattle.fed_inbox.specs.Inbox.{new_held, log_at, taken_of, taken_edus_o
 ghost use Rattle.fed_inbox.specs.InboxParts.{nothing_from_all};
 ghost use Rattle.fed_inbox.specs.LogParts.{is_from};
 ghost use Rattle.fed_inbox.specs.Answer.{IsAnswered, request_of, request_by};
-ghost use Rattle.fed_inbox.specs.AnswerParts.{IsTried};
+ghost use Rattle.fed_inbox.specs.AnswerParts.{IsTried, answer_with, fresh_with};
+ghost use Rattle.fed_inbox.specs.SendPath.{path_of, segment_of};
+ghost use Rattle.fed_inbox.specs.WholeRequest.{IsAnsweredWhole, asked};
+ghost use Rattle.fed_inbox.specs.IncomingParts.{heading_of};
 ghost use Rattle.fed_inbox.specs.Log.{AreByOrigin};
 
+use crate::incoming::Incoming;
 use crate::log::{Accepted, Log};
 use crate::refusal::Refusal;
-use crate::reply::Reply;
 use crate::rooms::Rooms;
 use crate::taken::Taken;
-use crate::vouching::{Known, Vouch};
+use crate::vouching::{Known, Signed, Vouch};
 use fed_dest::{List, ServerName};
 use fed_event::{Checked, Keys};
+use fed_http::{Reply, Request};
 use fed_json::NoMemory;
 use fed_replies::ReplyStore;
 use fed_txn::{MAX_BODY, read_body};
@@ -119,16 +123,8 @@ impl<S: ReplyStore> Inbox<S> {
         ensures large { IsSome (log_at origin.now self.old.state.logs) → MAX_BODY < length body.now
             → result ≡ refused Refusal.BodyTooLarge }
     {
-        match self.try_answer(alloc, origin, txn, body, &Known, keys) {
-            Ok(Accepted { reply, fresh }) => {
-                self.fresh = fresh;
-                Reply::accepted(reply)
-            }
-            Err(refusal) => {
-                self.fresh = Vec::new(alloc);
-                Reply::refused(refusal)
-            }
-        }
+        let tried = self.try_answer(alloc, origin, txn, body, &Known, keys);
+        self.settle(alloc, tried)
     }
 
     /// Hands out, once, the checked events that the newest answer took, in order, for the rooms: none where it took nothing. It
@@ -160,6 +156,81 @@ impl<S: ReplyStore> Inbox<S> {
             Some(place) => self.logs[place].edus(),
             None => Taken::of(&[]),
         }
+    }
+
+    /// Answers a whole request to this server, and takes the transaction that it brings where the answer is its first 200 (Server-Server
+    /// API, "Request Authentication" and "Transactions"). The first of these decides:
+    ///
+    /// - 404 where the target is not `/_matrix/federation/v1/send/` and one segment behind it, the transaction id, with a query or not
+    /// - 405 where the method is not PUT
+    /// - 401 where it has not exactly one Authorization field, or that is none of the scheme X-Matrix
+    /// - 401 where that names a destination other than this server
+    /// - what `answer_body` says of the origin that the field names, of that id and of the body. Where the body is read, and before its
+    ///   `origin` is compared, it is 401 where the signature in the field does not check for the method, the target, that origin, this
+    ///   server and the body
+    ///
+    /// Where memory runs out the answer is 500, and nothing is taken or kept. The first needs no memory, but where the segment is there
+    /// and does not decode to UTF-8.
+    pub fn answer<K: Keys>(&mut self, alloc: Global, request: &Request, keys: &K) -> Reply
+        ensures answered { IsAnsweredWhole (K.checks keys.now) self.old.state request.now result self.new.state self.new.fresh }
+        ensures no_path { segment_of (path_of request.now.target) ≡ None → result ≡ refused Refusal.NoSuchPath }
+    {
+        let tried = self.try_request(alloc, request, keys);
+        self.settle(alloc, tried)
+    }
+
+    // The reply to what was tried; its events wait for the rooms.
+    fn settle(&mut self, alloc: Global, tried: Result<Accepted, Refusal>) -> Reply
+        ensures reply { result ≡ answer_with tried }
+        ensures fresh { self.new.fresh ≡ fresh_with tried }
+        ensures state { self.new.state ≡ self.old.state }
+    {
+        match tried {
+            Ok(Accepted { reply, fresh }) => {
+                self.fresh = fresh;
+                Reply::new(200, reply)
+            }
+            Err(refusal) => {
+                self.fresh = Vec::new(alloc);
+                Reply::from(refusal)
+            }
+        }
+    }
+
+    // Answers a whole request, and leaves the events for the rooms as they were.
+    fn try_request<K: Keys>(
+        &mut self,
+        alloc: Global,
+        request: &Request,
+        keys: &K,
+    ) -> Result<Accepted, Refusal>
+        ensures tried { IsAnsweredWhole (K.checks keys.now) self.old.state request.now (answer_with result) self.new.state (fresh_with result) }
+        ensures no_path { segment_of (path_of request.now.target) ≡ None → result ≡ Err Refusal.NoSuchPath }
+    {
+        let incoming = Incoming::of(alloc, request, self.own())?;
+        self.try_incoming(alloc, request, &incoming, keys)
+    }
+
+    // Answers a request whose beginning is read.
+    fn try_incoming<K: Keys>(
+        &mut self,
+        alloc: Global,
+        request: &Request,
+        incoming: &Incoming,
+        keys: &K,
+    ) -> Result<Accepted, Refusal>
+        ensures { IsTried (K.checks keys.now) self.old.state
+            (asked (K.checks keys.now) self.old.state.own request.now (heading_of incoming.now)) result self.new.state }
+    {
+        let own = self.own.copy(alloc)?;
+        let signed = Signed {
+            request,
+            header: &incoming.header,
+            own: own.as_str(),
+            keys,
+        };
+        let origin = incoming.header.origin();
+        self.try_answer(alloc, origin, &incoming.txn, request.body(), &signed, keys)
     }
 
     // Answers, and leaves the events for the rooms as they were.

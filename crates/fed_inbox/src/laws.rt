@@ -1,5 +1,5 @@
 // What holds of all inboxes and all lists of requests.
-ghost use Rattle.std.specs.Prelude.{◌≡◌, ◌≢◌, ℕ, List, [], ◌∷◌, ◌++◌, Bool, Some, None, All, AllPairs, option_map, find};
+ghost use Rattle.std.specs.Prelude.{◌≡◌, ◌≢◌, ℕ, List, [], ◌∷◌, ◌++◌, Bool, true, Some, None, Result, Ok, length, IsUtf8, All, AllPairs, option_map, find};
 ghost use Rattle.std.specs.FinMap as finite;
 ghost use Rattle.serde_json.specs.Data.{Data};
 ghost use Rattle.fed_event.specs.Names.{is_one_of};
@@ -10,8 +10,16 @@ ghost use Rattle.fed_inbox.specs.Inbox.{InboxState, new_inbox, log_at, taken_of,
 ghost use Rattle.fed_inbox.specs.LookUps.{log_of_new, reply_of_new, has_id};
 ghost use Rattle.fed_inbox.specs.Taking.{verdict_on, verdicts_on};
 ghost use Rattle.fed_inbox.specs.Answer.{Request, marked_answer, marked_after, marked_fresh};
+ghost use Rattle.base64.specs.GeneralPurpose.{IsBytes};
+ghost use Rattle.fed_http.specs.Message.{RequestValue};
+ghost use Rattle.fed_http.specs.Signing.{Asked as Sent, header_of, request_of};
+ghost use Rattle.fed_http.specs.WrittenHeaders.{header_text};
 ghost use Rattle.fed_inbox.specs.Reply.{accepted};
+ghost use Rattle.fed_inbox.specs.WholeRequest.{Heading, IsReadAs, IsSending, is_signed_by};
+ghost use Rattle.fed_inbox.specs.declared.refusal.Refusal.{Refusal};
 ghost use Rattle.fed_inbox.specs.Runs.{Asked, answers, after_all, fresh_all, kept_reply, WasAnswered, Takes, IsForRooms, IsRepeatAnswer};
+
+use fed_event::Keys;
 
 /// A new inbox has a log for each listed server but its own and for no other server, of which nothing is taken, and knows just the rooms
 /// that it was given. It has the replies that its store keeps for those servers, and none where the store keeps none.
@@ -111,4 +119,20 @@ pub fn what_the_rooms_get()
         → All (IsForRooms checks inbox.rooms) (fresh_all checks inbox asked) }
     ensures apart { (checks : Checks) (inbox : InboxState) (request : Request) (found : Bool)
         → AllPairs (λ one other. event_id_of one.event ≢ event_id_of other.event) (marked_fresh checks inbox request found) }
+{}
+
+/// A whole request is read in one way, so that where memory is found its answer is the one answer to what it is read as.
+pub fn one_reading()
+    ensures { (own : List ℕ) (request : RequestValue) (a b : Result Heading Refusal)
+        → IsReadAs own request a → IsReadAs own request b → a ≡ b }
+{}
+
+/// A request that a server sends to this one, signed as servers sign, is read as its transaction with its header, and under the law of `Keys`
+/// its signature checks.
+pub fn signed_requests_pass<K: Keys>()
+    ensures read { (sent : Sent) (key : List ℕ) (sign : List ℕ → List ℕ) (txn : List ℕ) → let h = header_of sent key sign in
+        IsSending (request_of sent key sign) txn → IsUtf8 (header_text h) → IsBytes h.signature → length h.signature ≡ 64
+        → IsReadAs sent.destination (request_of sent key sign) (Ok (record { txn = txn; header = h })) }
+    ensures signed { (keys : K) (sent : Sent) → sent.origin ≡ K.own_name keys → let h = header_of sent (K.own_key keys) (K.own_signature keys) in
+        is_signed_by (K.checks keys) sent.destination (request_of sent (K.own_key keys) (K.own_signature keys)) h sent.content ≡ true }
 {}

@@ -8,20 +8,20 @@
 //! - `text_list`: texts that are kept in one piece
 //! - `taken`: `Taken`, the texts taken from an origin, one after another
 //! - `rooms`: the rooms that the server knows
+//! - `incoming`: what a whole request says before its body is read
 //! - `vouching`: who tells whether a request is signed
 //! - `send_path`: the transaction id in the target of a request
-//! - `reply`: `Reply`, a status and a body
 //! - `laws`: what holds of all inboxes and all lists of requests
 //! - `refusal`: `Refusal`, the table of the error replies
 #![tactic(auto)]
 
 mod inbox;
+mod incoming;
 mod laws;
 mod log;
 mod outcome;
 mod received;
 mod refusal;
-mod reply;
 mod rooms;
 mod send_path;
 mod taken;
@@ -29,13 +29,14 @@ mod text_list;
 mod verdict;
 mod vouching;
 
+pub use fed_http::Reply;
 pub use inbox::Inbox;
 pub use laws::{
-    a_200_is_kept, kept_replies_stay, only_a_first_200_changes, origins_are_apart,
-    repeats_get_the_kept_reply, taken_grows, the_first_of_an_id_decides, what_a_new_inbox_knows,
-    what_is_kept_was_answered, what_one_more_request_adds, what_the_rooms_get,
+    a_200_is_kept, kept_replies_stay, one_reading, only_a_first_200_changes, origins_are_apart,
+    repeats_get_the_kept_reply, signed_requests_pass, taken_grows, the_first_of_an_id_decides,
+    what_a_new_inbox_knows, what_is_kept_was_answered, what_one_more_request_adds,
+    what_the_rooms_get,
 };
 pub use refusal::Refusal;
-pub use reply::Reply;
 pub use send_path::txn_of;
 pub use taken::Taken;

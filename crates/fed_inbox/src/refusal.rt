@@ -2,12 +2,21 @@
 ghost use Rattle.std.specs.Prelude.{◌≡◌};
 ghost use Rattle.fed_inbox.specs.Refusal.{error_reply, error_body};
 
+use fed_http::Reply;
 use fed_json::NoMemory;
 use fed_txn::{BodyField, TxnFault};
 
 /// Why a request is refused (Server-Server API, "Standard error response").
 #[derive(Clone, Copy, Debug, PartialEq, Eq)]
 pub enum Refusal {
+    /// The target is not the path of a transaction.
+    NoSuchPath,
+    /// The method is not PUT.
+    MethodNotAllowed,
+    /// The request has no Authorization field of the scheme X-Matrix, or more than one field.
+    BadAuthorization,
+    /// The request is for another server.
+    WrongDestination,
     /// The origin is not another listed server.
     ServerNotListed,
     /// The body has more than 16,777,216 bytes.
@@ -39,6 +48,10 @@ impl Refusal {
         ensures { result ≡ (error_reply self).status }
     {
         match self {
+            Refusal::NoSuchPath => 404,
+            Refusal::MethodNotAllowed => 405,
+            Refusal::BadAuthorization => 401,
+            Refusal::WrongDestination => 401,
             Refusal::ServerNotListed => 403,
             Refusal::BodyTooLarge => 413,
             Refusal::BadSignature => 401,
@@ -57,6 +70,16 @@ impl Refusal {
         ensures { result.now ≡ error_body (error_reply self) }
     {
         match self {
+            Refusal::NoSuchPath => "{\"errcode\":\"M_UNRECOGNIZED\",\"error\":\"no such path\"}",
+            Refusal::MethodNotAllowed => {
+                "{\"errcode\":\"M_UNRECOGNIZED\",\"error\":\"method not allowed\"}"
+            }
+            Refusal::BadAuthorization => {
+                "{\"errcode\":\"M_UNAUTHORIZED\",\"error\":\"bad authorization\"}"
+            }
+            Refusal::WrongDestination => {
+                "{\"errcode\":\"M_UNAUTHORIZED\",\"error\":\"wrong destination\"}"
+            }
             Refusal::ServerNotListed => {
                 "{\"errcode\":\"M_FORBIDDEN\",\"error\":\"server not listed\"}"
             }
@@ -118,5 +141,17 @@ impl From<TxnFault> for Refusal {
             TxnFault::TooManyEdus => Refusal::TooManyEdus,
             TxnFault::TooLarge => Refusal::BodyTooLarge,
         }
+    }
+}
+
+impl From<Refusal> for Reply {
+    ghost use Rattle.fed_inbox.specs.Reply.{refused};
+    ghost use Rattle.std.specs.Prelude.{◌≡◌};
+
+    ghost from_gives = { λ refusal reply. reply ≡ refused refusal };
+
+    /// The error reply. It is made without memory.
+    fn from(refusal: Refusal) -> Reply {
+        Reply::fixed(refusal.status(), refusal.body())
     }
 }

@@ -1,5 +1,5 @@
 // The target of a request that sends a transaction.
-ghost use Rattle.std.specs.Prelude.{◌≡◌, ◌<◌, length, option_map, string_bytes, position, IfOk, IfSome};
+ghost use Rattle.std.specs.Prelude.{◌≡◌, ◌<◌, length, option_map, string_bytes, position, None, Ok, IfOk, IfSome};
 ghost use Rattle.fed_inbox.specs.SendPath.{txn_of, path_of, segment_of, decoded, is_question_mark, is_slash};
 ghost use Rattle.std.specs.List.{list_any};
 
@@ -9,9 +9,10 @@ use std::alloc::Global;
 
 /// The transaction id in the target of a request: the one segment behind `/_matrix/federation/v1/send/`, decoded (RFC 3986, section
 /// 2.1). A query behind `?` is not looked at. It is `None` where the path is another one, the segment is empty, or what it decodes to is
-/// not UTF-8.
+/// not UTF-8. That the path is another one, or the segment empty, is told without memory.
 pub fn txn_of(alloc: Global, target: &str) -> Result<Option<String>, NoMemory>
-    ensures { IfOk result (λ txn. option_map string_bytes txn ≡ txn_of target.now) }
+    ensures txn { IfOk result (λ txn. option_map string_bytes txn ≡ txn_of target.now) }
+    ensures no_path { segment_of (path_of target.now) ≡ None → result ≡ Ok None }
 {
     match segment_of(path_of(target.as_bytes())) {
         Some(segment) => decoded(alloc, segment),

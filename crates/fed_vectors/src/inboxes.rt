@@ -6,8 +6,9 @@ use crate::key_ring::{KeyRing, Request};
 use crate::made::{List, Object, copy, number, taken_texts, text_of_bytes};
 use fed_app::{InboxSetup, SetupFault, inbox_run};
 use fed_event::Checked;
+use fed_http::Field;
 use fed_inbox::{Inbox, Reply};
-use fed_json::Json;
+use fed_json::{Items, Json};
 use fed_replies::ListStore;
 use std::alloc::Global;
 
@@ -76,12 +77,49 @@ fn reply(
     keys: &KeyRing,
 ) -> Result<Reply, Stop> {
     let body = request.body()?;
+    if request.find("target").is_some() {
+        let whole = whole(request, body)?;
+        return Ok(keys.answer(request.alloc, inbox, &whole));
+    }
     let sent = Request {
         origin: request.text("origin")?,
         txn: request.text("txn")?,
         body: &body,
     };
     Ok(keys.answer_body(request.alloc, inbox, sent))
+}
+
+// A request as it comes over HTTP.
+fn whole(request: Arguments<'_>, body: Vec<u8>) -> Result<fed_http::Request, Stop> {
+    let fields = fields(request)?;
+    let method = request.string("method")?;
+    let target = request.string("target")?;
+    Ok(fed_http::Request::new(method, target, fields, body))
+}
+
+// The fields of a list of pairs of names and values.
+fn fields(request: Arguments<'_>) -> Result<Vec<Field>, Stop> {
+    let mut fields = Vec::new(request.alloc);
+    for item in request.items("fields")? {
+        let Some((name, value)) = item.items().and_then(pair_in) else {
+            return Err(request.wrong_kind("fields"));
+        };
+        fields.push(field(request.alloc, name, value)?)?;
+    }
+    Ok(fields)
+}
+
+fn field(alloc: Global, name: &str, value: &str) -> Result<Field, Stop> {
+    let name = String::from_str(alloc, name)?;
+    Ok(Field::new(name, Vec::from_slice(alloc, value.as_bytes())?))
+}
+
+// The two texts of a list.
+fn pair_in<'a>(mut parts: Items<'a>) -> Option<(&'a str, &'a str)> {
+    if parts.len() != 2 {
+        return None;
+    }
+    Some((parts.next()?.text()?, parts.next()?.text()?))
 }
 
 // The status and the body.

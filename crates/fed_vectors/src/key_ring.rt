@@ -104,6 +104,18 @@ impl KeyRing {
         }
     }
 
+    pub(crate) fn answer(
+        &self,
+        alloc: Global,
+        inbox: &mut Inbox<ListStore>,
+        request: &fed_http::Request,
+    ) -> Reply {
+        match self {
+            KeyRing::StandIn(keys) => inbox.answer(alloc, request, keys),
+            KeyRing::Trusting(keys) => inbox.answer(alloc, request, keys),
+        }
+    }
+
     /// The request that sends a transaction to a server, signed.
     pub(crate) fn signed_request(
         &self,

@@ -32,3 +32,15 @@ returns-in-OutOfMemory c = ap text (sym c.in-OutOfMemory.is)
 
 pub returns-in-BadField : goal.returns-in-BadField
 returns-in-BadField c = c.bad_field.ensures ∙ ap text (sym c.in-BadField.is)
+
+pub returns-in-NoSuchPath : goal.returns-in-NoSuchPath
+returns-in-NoSuchPath c = ap text (sym c.in-NoSuchPath.is)
+
+pub returns-in-MethodNotAllowed : goal.returns-in-MethodNotAllowed
+returns-in-MethodNotAllowed c = ap text (sym c.in-MethodNotAllowed.is)
+
+pub returns-in-BadAuthorization : goal.returns-in-BadAuthorization
+returns-in-BadAuthorization c = ap text (sym c.in-BadAuthorization.is)
+
+pub returns-in-WrongDestination : goal.returns-in-WrongDestination
+returns-in-WrongDestination c = ap text (sym c.in-WrongDestination.is)
