@@ -1,0 +1,4 @@
+pub mod Marks
+pub mod ChainMarks
+pub mod Resolved
+pub mod Unconflicteds

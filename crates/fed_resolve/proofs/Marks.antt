@@ -1,0 +1,47 @@
+-- Marks that are set.
+use Rattle.std.proofs.Common.{◌≡◌, ◌<◌, ℕ, List, [], ◌∷◌, Bool, true, false, ◌||◌, eqb, Option, None, Some, length, set, take, drop, ◌++◌, sym, ap, ◌∙◌, ◌⊎◌, inl, inr, refl}
+use Rattle.std.specs.List.{list_any, cons_option, slice_index_or}
+use Rattle.std.proofs.lemmas.Bool.{cases_eq, eq-eqb, ne_eqb, or_left}
+use Rattle.std.proofs.Math.Seq.{take-append_seam}
+use Rattle.std.proofs.lemmas.List.{get_or-set_same, get_or-set_other}
+use Rattle.fed_resolve.specs.ChainParts.{or_among}
+
+-- one more mark
+pub one_set : (marks : List Bool) (p q : ℕ) → p < length marks → slice_index_or (set marks p true) q false ≡ (eqb p q || slice_index_or marks q false)
+one_set marks p q below = by (cases_eq p q)
+  where
+    by : (p ≡ q) ⊎ (p ≡ q → ⊥) → slice_index_or (set marks p true) q false ≡ (eqb p q || slice_index_or marks q false)
+    by (inl e) =
+        ap (λ k. slice_index_or (set marks p true) k false) (sym e) ∙ get_or-set_same marks p true false below
+        ∙ sym (or_left (eqb p q) (slice_index_or marks q false) (eq-eqb p q e))
+    by (inr n) = get_or-set_other marks p q true false (λ e. n (sym e)) ∙ sym (ap (λ b. b || slice_index_or marks q false) (ne_eqb p q n))
+
+turned : (a b c : Bool) → ((a || b) || c) ≡ (b || (a || c))
+turned true true c = refl
+turned true false c = refl
+turned false b c = refl
+
+-- the mark of the first of some places is set: the others are left
+pub next_set : (places : List ℕ) (marks : List Bool) (p q : ℕ) → p < length marks → or_among places (set marks p true) q ≡ or_among (p ∷ places) marks q
+next_set places marks p q below =
+    ap (λ b. b || list_any (λ a. eqb a q) places) (one_set marks p q below) ∙ turned (eqb p q) (slice_index_or marks q false) (list_any (λ a. eqb a q) places)
+
+-- the same of a place that may be missing
+pub next_some : (o : Option ℕ) (places : List ℕ) (marks : List Bool) (p q : ℕ) → o ≡ Some p → p < length marks
+    → or_among places (set marks p true) q ≡ or_among (cons_option o places) marks q
+next_some o places marks p q e below = next_set places marks p q below ∙ ap (λ x. or_among (cons_option x places) marks q) (sym e)
+
+pub next_none : (o : Option ℕ) (places : List ℕ) (marks : List Bool) (q : ℕ) → o ≡ None → or_among places marks q ≡ or_among (cons_option o places) marks q
+next_none o places marks q e = ap (λ x. or_among (cons_option x places) marks q) (sym e)
+
+or_none : (a : Bool) → (a || false) ≡ a
+or_none true = refl
+or_none false = refl
+
+-- nothing is left
+pub none_left : (marks : List Bool) (q : ℕ) → or_among [] marks q ≡ slice_index_or marks q false
+none_left marks q = or_none (slice_index_or marks q false)
+
+-- a list that was written over another one of its length
+pub written : (n : ℕ) (new old : List Bool) → length new ≡ n → take n (new ++ drop (length new) old) ≡ new
+written n new old long = ap (λ k. take k (new ++ drop (length new) old)) (sym long) ∙ take-append_seam new (drop (length new) old)

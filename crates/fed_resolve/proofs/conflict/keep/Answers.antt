@@ -1,0 +1,25 @@
+use Rattle.std.proofs.Common.{◌≡◌, ℕ, List, [], ◌∷◌, ◌++◌, map, take, subst, sym, ap, ◌∙◌, None, Some, option_map}
+use Rattle.std.specs.FinMap as finite
+use Rattle.fed_room_contract.specs.Entry.{seen}
+use Rattle.fed_room_contract.specs.State.{StateKey}
+use Rattle.fed_resolve.specs.Conflict.{unconflicted}
+use Rattle.fed_resolve.specs.ConflictParts.{AreKept}
+use Rattle.fed_resolve.proofs.Unconflicteds.{more_seen, kept-laid, kept-skipped}
+use Rattle.fed_resolve.proofs.conflict.keep.Goals.{in-Some+in_ok-copy+in_ok-insert, in_default}
+use Rattle.fed_resolve.proofs.conflict.keep.Goals as goal
+
+pub loop-entry-preserved : goal.loop-entry-preserved
+loop-entry-preserved c =
+    let whole = unconflicted c.args.states.now in
+    let entry = c.entry-item.result in
+    let es : List (StateKey × List ℕ) = map seen (take c.loop-entry.entry-index c.args.entries.now) in
+    let more = more_seen seen c.args.entries.now c.loop-entry.entry-index entry c.loop-entry-test.true c.entry-item.is in
+    subst (λ xs. AreKept whole xs c.match-agreed.state) (sym more) (elim c.match-agreed.branch [
+      | in-Some+in_ok-copy+in_ok-insert w ↦
+          let here : finite.get whole (seen entry).0 ≡ Some w.in-Some.id.now = sym c.agreed.ensures ∙ ap (option_map (λ id. id.now)) w.in-Some.is in
+          let state : c.match-agreed.state ≡ finite.insert c.loop-entry.state (seen entry).0 w.in-Some.id.now = w.state-is ∙ w.in_ok-insert.ensures.ok ∙ ap (λ i. finite.insert c.loop-entry.state (seen entry).0 i) w.in_ok-copy.ensures in
+          subst (AreKept whole (es ++ seen entry ∷ [])) (sym state) (kept-laid whole c.loop-entry.state es (seen entry) c.loop-entry.invariant w.in-Some.id.now here)
+      | in_default w ↦
+          let here : finite.get whole (seen entry).0 ≡ None = sym c.agreed.ensures ∙ ap (option_map (λ id. id.now)) w.in_default.is in
+          subst (AreKept whole (es ++ seen entry ∷ [])) (sym w.state-is) (kept-skipped whole c.loop-entry.state es (seen entry) c.loop-entry.invariant here)
+    ])

@@ -1,0 +1,10 @@
+pub mod Marks
+pub mod Chain
+pub mod ChainParts
+pub mod Conflict
+pub mod ConflictParts
+pub mod Order
+pub mod PowerOrder
+pub mod Mainline
+pub mod Checks
+pub mod Resolution
