@@ -1,3 +1,4 @@
 pub mod AuthStates
 pub mod Selections
 pub mod Passing
+pub mod Deciding

@@ -1,11 +1,11 @@
 // What rule 2 makes of the auth events of an event.
-ghost use Rattle.std.specs.Prelude.{◌≡◌, true, Ok, Err, IfOk, OnOk, codes, bytes_eq};
+ghost use Rattle.std.specs.Prelude.{◌≡◌, true, Ok, Err, IfOk, OnOk, OnErr, codes, bytes_eq};
 ghost use Rattle.std.specs.List.{list_any};
 ghost use Rattle.std.specs.FinMap as finite;
 ghost use Rattle.fed_event.specs.Fields.{auth_events_of, kind_of};
 ghost use Rattle.fed_room_contract.specs.declared.rule.Rule.{Rule};
 ghost use Rattle.fed_auth.specs.Table.{decide};
-ghost use Rattle.fed_auth.specs.AuthState.{stored_of, are_alike, has_double, is_outside_selection, is_rejected, is_create, is_of_other_room, auth_table, with_stored, with_all, auth_state_of};
+ghost use Rattle.fed_auth.specs.AuthState.{stored_of, stands_at, are_alike, has_double, is_outside_selection, is_rejected, is_create, is_of_other_room, auth_table, with_stored, with_all, auth_state_of};
 ghost use Rattle.fed_auth.specs.AuthEvents.{events_left};
 
 use crate::selector::Selector;
@@ -37,7 +37,7 @@ pub fn auth_state(
         return Ok(Ok(State::new(alloc)));
     }
     match check_auth_events(graph, event) {
-        Ok(()) => Ok(Ok(state_of(alloc, auth_events(graph, event))?)),
+        Ok(()) => Ok(Ok(state_of(alloc, AuthEvents::of(graph, event))?)),
         Err(rule) => Ok(Err(rule)),
     }
 }
@@ -47,7 +47,7 @@ pub fn auth_state(
 fn check_auth_events(graph: &Graph, event: &Pdu) -> Result<(), Rule>
     ensures { result ≡ decide (auth_table event.now (stored_of graph.now.stored (auth_events_of event.now))) }
 {
-    let events = auth_events(graph, event);
+    let events = AuthEvents::of(graph, event);
     if has_double(events) {
         return Err(Rule::condition(2, 1));
     }
@@ -67,9 +67,9 @@ fn check_auth_events(graph: &Graph, event: &Pdu) -> Result<(), Rule>
     Ok(())
 }
 
-// The auth events of an event that a graph has, from the first that is left on.
+/// The auth events of an event that a graph has, one after another, from the first that is left on.
 #[derive(Clone, Copy)]
-struct AuthEvents<'a> {
+pub struct AuthEvents<'a> {
     graph: &'a Graph,
     ids: EventIds<'a>,
 }
@@ -95,14 +95,41 @@ impl<'a> Iterator for AuthEvents<'a> {
     }
 }
 
-#[tactic(auto, unfolding(crate::specs::AuthEvents::events_left))]
-fn auth_events<'a>(graph: &'a Graph, event: &'a Pdu) -> AuthEvents<'a>
-    ensures { events_left result ≡ stored_of graph.now.stored (auth_events_of event.now) }
-{
-    AuthEvents {
-        graph,
-        ids: event.auth_events(),
+impl<'a> AuthEvents<'a> {
+    ghost use Rattle.std.specs.Prelude.{find, option_map};
+    ghost use Rattle.fed_auth.specs.AuthEvents.{events_left};
+
+    /// The auth events of an event that a graph has, in the order in which the event names them.
+    #[tactic(auto, unfolding(crate::specs::AuthEvents::events_left))]
+    pub fn of(graph: &'a Graph, event: &'a Pdu) -> AuthEvents<'a>
+        ensures { events_left result ≡ stored_of graph.now.stored (auth_events_of event.now) }
+    {
+        AuthEvents {
+            graph,
+            ids: event.auth_events(),
+        }
     }
+
+    /// The first of these that is a state event of this type and state key.
+    pub fn first_at(self, kind: &str, state_key: &str) -> Option<&'a Stored>
+        ensures { option_map (λ stored. stored.now) result ≡ find (stands_at kind.now state_key.now) (events_left self.entry) }
+    {
+        for auth in self {
+            if stands_at(auth, kind, state_key) {
+                return Some(auth);
+            }
+        }
+        None
+    }
+}
+
+// Whether this is a state event of this type and state key.
+#[tactic(auto, unfolding(crate::specs::AuthState::stands_at))]
+fn stands_at(auth: &Stored, kind: &str, state_key: &str) -> bool
+    ensures { result ≡ stands_at kind.now state_key.now auth.now }
+{
+    let auth = auth.event.event();
+    auth.kind() == kind && auth.state_key() == Some(state_key)
 }
 
 // 2.1: two of one type and state key.
@@ -212,17 +239,22 @@ fn state_of(alloc: Global, events: AuthEvents<'_>) -> Result<State, NoMemory>
 {
     let mut state = State::new(alloc);
     for auth in events {
-        lay(alloc, &mut state, auth)?;
+        lay_over(alloc, &mut state, auth)?;
     }
     Ok(state)
 }
 
-// Lays an event over the state, where it has a state key.
+/// Lays a stored event over a state, where it has a state key: it holds at its type and state key, in the place of what did.
+///
+/// # Errors
+///
+/// `NoMemory`; then the state is as it was.
 #[tactic(auto, unfolding(crate::specs::AuthState::with_stored))]
-fn lay(alloc: Global, state: &mut State, auth: &Stored) -> Result<(), NoMemory>
-    ensures { OnOk result (state.new ≡ with_stored state.old auth.now) }
+pub fn lay_over(alloc: Global, state: &mut State, stored: &Stored) -> Result<(), NoMemory>
+    ensures ok { OnOk result (state.new ≡ with_stored state.old stored.now) }
+    ensures err { OnErr result (state.new ≡ state.old) }
 {
-    let event = auth.event.event();
+    let event = stored.event.event();
     if let Some(state_key) = event.state_key() {
         state.insert(alloc, event.kind(), state_key, event.id().copy(alloc)?)?;
     }

@@ -1,12 +1,14 @@
 // What holds of all selections and auth states.
-ghost use Rattle.std.specs.Prelude.{◌≡◌, ◌≢◌, ◌<◌, AllPairs, ℕ, List, Ok, false, find, option_map, bytes_eq, codes};
+ghost use Rattle.std.specs.Prelude.{◌≡◌, ◌≢◌, ◌<◌, All, AllPairs, ℕ, List, Ok, false, find, option_map, bytes_eq, codes};
 ghost use Rattle.std.specs.List.{list_any};
 ghost use Rattle.serde_json.specs.Data.{Data};
 ghost use Rattle.fed_event.specs.Fields.{auth_events_of, kind_of};
 ghost use Rattle.fed_room_contract.specs.declared.graph.Stored.{Stored};
 ghost use Rattle.fed_room_contract.specs.Graph.{id_of};
 ghost use Rattle.fed_room_contract.specs.State.{StateMap, entry_at};
-ghost use Rattle.fed_auth.specs.Selection.{SelectorFields, selector_of, is_at, first_place, selection_keys, selection_of};
+ghost use Rattle.fed_event.specs.Checked.{CheckedEvent};
+ghost use Rattle.fed_auth.specs.Allowed.{allowed_of};
+ghost use Rattle.fed_auth.specs.Selection.{SelectorFields, selector_of, is_at, entry_of, first_place, selection_keys, selection_of};
 ghost use Rattle.fed_auth.specs.AuthState.{NamesOwnEvents, stored_of, has_double, is_outside_selection, stands_at, auth_state_of};
 
 /// What a selection is, whatever the fields and the state. An id is in it exactly where the state has it at a key of the selection; no two
@@ -34,4 +36,11 @@ pub fn what_an_auth_state_has()
     ensures { (events : List Stored) (event : Data) (state : StateMap) (kind key : List ℕ)
         → bytes_eq (kind_of event) (codes "m.room.create") ≡ false → auth_state_of events event ≡ Ok state
         → entry_at state kind key ≡ option_map id_of (find (stands_at kind key) (stored_of events (auth_events_of event))) }
+{}
+
+/// What a room makes of an event depends on what its state has at the keys of the event's selection alone.
+pub fn the_selection_decides()
+    ensures { (events : List Stored) (checked : CheckedEvent) (one other : StateMap)
+        → All (λ key. entry_of one key ≡ entry_of other key) (selection_keys (selector_of checked.event))
+        → allowed_of events checked one ≡ allowed_of events checked other }
 {}

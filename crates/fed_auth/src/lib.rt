@@ -31,12 +31,12 @@ mod rules;
 mod selector;
 mod state_view;
 
-pub use auth_events::auth_state;
+pub use auth_events::{AuthEvents, auth_state, lay_over};
 pub use fed_event::authorising_user;
 pub use join_rule::JoinRule;
-pub use laws::{selections_pass, what_an_auth_state_has, what_is_selected};
+pub use laws::{selections_pass, the_selection_decides, what_an_auth_state_has, what_is_selected};
 pub use level::Level;
 pub use levels::Levels;
 pub use membership::Membership;
 pub use rules::allowed;
-pub use selector::{Selector, selection};
+pub use selector::{Key, Selector, selection};

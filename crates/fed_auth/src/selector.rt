@@ -114,9 +114,11 @@ impl<'a> Selector<'a> {
         false
     }
 
-    // The keys of the selection, in their order, with `None` for what is not selected.
+    /// The keys of the selection, in their order, with `None` for what is not selected: the create event, the power levels, the
+    /// membership of the sender; of a member event the membership of the target, the join rules, and the membership of the user that
+    /// authorises it.
     #[tactic(auto, unfolding(crate::specs::Selection::selection_keys))]
-    fn keys(&self) -> [Option<Key<'a>>; 6]
+    pub fn keys(&self) -> [Option<Key<'a>>; 6]
         ensures { all_seen result ≡ selection_keys self.now }
     {
         [
@@ -201,11 +203,11 @@ fn entry<'a>(state: &'a State, key: Option<Key<'_>>) -> Option<&'a EventId>
     state.get(key.kind, key.state_key)
 }
 
-// The type and the state key of an event of the state.
+/// The type and the state key of an event of the state.
 #[derive(Clone, Copy)]
-struct Key<'a> {
-    kind: &'a str,
-    state_key: &'a str,
+pub struct Key<'a> {
+    pub kind: &'a str,
+    pub state_key: &'a str,
 }
 
 impl<'a> Key<'a> {
