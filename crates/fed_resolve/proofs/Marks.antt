@@ -43,5 +43,5 @@ pub none_left : (marks : List Bool) (q : ℕ) → or_among [] marks q ≡ slice_
 none_left marks q = or_none (slice_index_or marks q false)
 
 -- a list that was written over another one of its length
-pub written : (n : ℕ) (new old : List Bool) → length new ≡ n → take n (new ++ drop (length new) old) ≡ new
+pub written : {X : Type 0} (n : ℕ) (new old : List X) → length new ≡ n → take n (new ++ drop (length new) old) ≡ new
 written n new old long = ap (λ k. take k (new ++ drop (length new) old)) (sym long) ∙ take-append_seam new (drop (length new) old)

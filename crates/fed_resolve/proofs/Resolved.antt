@@ -45,7 +45,7 @@ none-resolved events =
 
 -- ---- entries that are laid over
 
-laid-other : (es : List (StateKey × List ℕ)) (state : StateMap) (q : StateKey) → find key_cmp q es ≡ None → finite.get (with_entries state es) q ≡ finite.get state q
+pub laid-other : (es : List (StateKey × List ℕ)) (state : StateMap) (q : StateKey) → find key_cmp q es ≡ None → finite.get (with_entries state es) q ≡ finite.get state q
 laid-other [] state q none = refl
 laid-other (e ∷ es) state q none = by (laid-other es (finite.insert state e.0 e.1) q) (eq_by_cmp key_cmp q e.0) refl none
   where
@@ -54,7 +54,7 @@ laid-other (e ∷ es) state q none = by (laid-other es (finite.insert state e.0 
     by rest true t h = absurd (cc)
     by rest false t h = rest h ∙ finite.get-insert key_cmp_total state e.0 e.1 q ∙ ap (λ b. cond b (Some e.1) (finite.get state q)) t
 
-laid-here : (es : List (StateKey × List ℕ)) (state : StateMap) (q : StateKey) (id : List ℕ) → T (is_sorted key_cmp es) → find key_cmp q es ≡ Some id → finite.get (with_entries state es) q ≡ Some id
+pub laid-here : (es : List (StateKey × List ℕ)) (state : StateMap) (q : StateKey) (id : List ℕ) → T (is_sorted key_cmp es) → find key_cmp q es ≡ Some id → finite.get (with_entries state es) q ≡ Some id
 laid-here [] state q id sorted found = absurd (cc)
 laid-here (e ∷ es) state q id sorted found = by (laid-here es (finite.insert state e.0 e.1) q id (second _ _ sorted)) (eq_by_cmp key_cmp q e.0) refl found
   where

@@ -4,7 +4,12 @@ pub mod ChainParts
 pub mod Conflict
 pub mod ConflictParts
 pub mod Order
+pub mod OrderParts
 pub mod PowerOrder
 pub mod Mainline
+pub mod LevelsParts
+pub mod RankParts
 pub mod Checks
+pub mod ChecksParts
 pub mod Resolution
+pub mod Laws

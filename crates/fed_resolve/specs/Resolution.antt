@@ -15,6 +15,10 @@ abbrev pub with_entries : StateMap → List (StateKey × List ℕ) → StateMap
 with_entries state [] = state
 with_entries state (entry ∷ entries) = with_entries (with_entry state entry.0.0 entry.0.1 entry.1) entries
 
+-- the power levels event of a state
+abbrev pub levels_in : List Stored → StateMap → Option ℕ
+levels_in events state = option_and_then (place_of events) (entry_at state (codes "m.room.power_levels") [])
+
 module _ (events : List Stored) (states : List StateMap) where
   abbrev pub is_conflicted : ℕ → Bool
   is_conflicted = is_full_conflicted events states
@@ -36,7 +40,7 @@ module _ (events : List Stored) (states : List StateMap) where
 
   -- the power levels event of that state
   abbrev pub levels_place : Option ℕ
-  levels_place = option_and_then (place_of events) (entry_at power_state (codes "m.room.power_levels") [])
+  levels_place = levels_in events power_state
 
   -- steps 3 and 4: the others, in the mainline order of this, are checked from there
   abbrev pub checked_state : StateMap

@@ -45,7 +45,7 @@ pub fn agreed<'a>(states: &'a [State], kind: &str, state_key: &str) -> Option<&'
 }
 
 // Whether all states have this id at a type and state key.
-fn all_have(states: &[State], kind: &str, state_key: &str, id: &EventId) -> bool
+pub(crate) fn all_have(states: &[State], kind: &str, state_key: &str, id: &EventId) -> bool
     ensures { result ≡ list_all (has_id_at kind.now state_key.now id.now) states.now }
 {
     states

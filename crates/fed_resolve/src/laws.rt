@@ -1,11 +1,13 @@
 // What holds of all resolved states.
-ghost use Rattle.std.specs.Prelude.{◌≡◌, ℕ, List, [], ◌∷◌, Some};
+ghost use Rattle.std.specs.Prelude.{◌≡◌, ◌<◌, ◌⊎◌, ℕ, List, [], ◌∷◌, ◌++◌, Option, Some, All, length};
 ghost use Rattle.std.specs.FinMap as finite;
 ghost use Rattle.fed_room_contract.specs.declared.graph.Stored.{Stored};
 ghost use Rattle.fed_room_contract.specs.Graph.{IsGraph};
+ghost use Rattle.fed_room_contract.specs.Lawful.{NamesStored};
 ghost use Rattle.fed_resolve.specs.Chain.{IsChainTest};
 ghost use Rattle.fed_resolve.specs.Resolution.{resolved_of};
 ghost use Rattle.fed_resolve.specs.Conflict.{unconflicted};
+ghost use Rattle.fed_resolve.specs.Laws.{AllNameStored, SomeStateHas, IsOfConflict, AreSameStates, IsPowerOrder, IsMainlineOrder};
 ghost use Rattle.fed_room_contract.specs.State.{StateKey, StateMap};
 
 /// No states resolve to the state in which nothing holds.
@@ -27,4 +29,32 @@ pub fn agreed_keys_stay()
 /// One state resolves to itself.
 pub fn one_state_stays()
     ensures { (events : List Stored) (state : StateMap) → resolved_of events (state ∷ []) ≡ state }
+{}
+
+/// Where each of the states names stored events alone, so does the state that they resolve to.
+pub fn resolved_states_name_stored_events()
+    ensures { (events : List Stored) (states : List StateMap) → AllNameStored events states → NamesStored events (resolved_of events states) }
+{}
+
+/// The resolved state is by the states and the ancestry of the events that they name: events that are stored later change nothing.
+pub fn later_events_change_nothing()
+    ensures { (events more : List Stored) (states : List StateMap) → IsGraph (events ++ more) → AllNameStored events states → resolved_of (events ++ more) states ≡ resolved_of events states }
+{}
+
+/// What the resolved state has at a key, one of the states has there, or it is an event of the full conflicted set, which stands at that
+/// key.
+pub fn entries_come_from_the_states()
+    ensures { (events : List Stored) (states : List StateMap) (key : StateKey) (id : List ℕ) → finite.get (resolved_of events states) key ≡ Some id → SomeStateHas states key id ⊎ IsOfConflict events states key id }
+{}
+
+/// In which order the states are given, and how often one of them, makes no difference.
+pub fn states_in_any_order()
+    ensures { (events : List Stored) (states others : List StateMap) → AreSameStates states others → resolved_of events states ≡ resolved_of events others }
+{}
+
+/// The two lists by which events are checked are orders: each has the given places, each of them once, and each place is ready where it is
+/// listed and comes first among those that are ready and not listed before it. The power order is one in a graph.
+pub fn lists_are_orders()
+    ensures power { (events : List Stored) (places : List ℕ) → IsGraph events → All (λ place. place < length events) places → IsPowerOrder events places }
+    ensures mainline { (events : List Stored) (levels : Option ℕ) (places : List ℕ) → All (λ place. place < length events) places → IsMainlineOrder events levels places }
 {}

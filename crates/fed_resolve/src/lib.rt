@@ -1,17 +1,43 @@
 //! What the state of a room is where its branches disagree: state resolution, version 2 (room version 2, "State resolution").
 //!
 //! - `chain`: auth chains
+//! - `checks`: iterative auth checks
 //! - `conflict`: what states agree on, and their full auth chains
+//! - `difference`: what states disagree on: the full conflicted set
 //! - `laws`: what holds of auth chains and of all resolved states
-//! - `power`: power events
+//! - `levels`: what the auth events of an event say of power levels
+//! - `mainline`: mainline ordering
+//! - `order`: events listed one after another
+//! - `places`: sets of places as marks, and as lists
+//! - `power`: power events, and the power events of the full conflicted set
+//! - `resolution`: the state that several states resolve to
+//! - `topological`: reverse topological power ordering
 #![tactic(auto)]
 
 mod chain;
+mod checks;
 mod conflict;
+mod difference;
 mod laws;
+mod levels;
+mod mainline;
+mod order;
+mod places;
 mod power;
+mod resolution;
+mod topological;
 
 pub use chain::chains;
+pub use checks::check_all;
 pub use conflict::{agreed, full_chain, unconflicted};
-pub use laws::{agreed_keys_stay, chain_test_is_exact, no_states_are_empty, one_state_stays};
-pub use power::is_power_event;
+pub use difference::full_conflicted;
+pub use laws::{
+    agreed_keys_stay, chain_test_is_exact, entries_come_from_the_states,
+    later_events_change_nothing, lists_are_orders, no_states_are_empty, one_state_stays,
+    resolved_states_name_stored_events, states_in_any_order,
+};
+pub use mainline::mainline_order;
+pub use places::members;
+pub use power::{is_power_event, other_set, power_set};
+pub use resolution::resolve;
+pub use topological::power_order;
