@@ -7,7 +7,7 @@ use std::alloc::Global;
 use std::test::Fail;
 
 // The inbox of b.example, which takes from a.example.
-fn inbox(alloc: Global) -> Result<Inbox<ListStore>, Fail> {
+pub(crate) fn inbox(alloc: Global) -> Result<Inbox<ListStore>, Fail> {
     let mut servers = Vec::new(alloc);
     servers.push(String::from_str(alloc, "a.example")?)?;
     let mut rooms = Vec::new(alloc);

@@ -5,6 +5,7 @@
 //! - `transactions`: bodies of the greatest size, replies that are read, and names and faults as texts
 //! - `inboxes`: a body that is too large, and the reply for want of memory
 //! - `replies`: a store of replies
+//! - `requests`: requests on their whole way: signed, written, read and answered
 //! - `servers`: copies of lists and sets of servers
 //! - `runs`: runs over readers and writers that give and take little, fail, or never end
 #![tactic(auto)]
@@ -15,6 +16,8 @@ mod events;
 mod inboxes;
 #[cfg(test)]
 mod replies;
+#[cfg(test)]
+mod requests;
 #[cfg(test)]
 mod runs;
 #[cfg(test)]
