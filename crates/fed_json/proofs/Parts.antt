@@ -1,21 +1,22 @@
 -- A part of a value of the profile is one, and so is a value with a member more or less.
-use Rattle.std.proofs.Common.{◌≡◌, ℕ, ◌≤◌, List, [], ◌∷◌, true, false, ◌&&◌, Option, Some, Ordering, Less, Equal, Greater, refl, ap, ◌∙◌, arith, string_bytes, string_cmp, nat_cmp, is_eq, cond}
+use Rattle.std.proofs.Common.{◌≡◌, ℕ, ◌≤◌, List, [], ◌∷◌, ◌++◌, true, false, ◌&&◌, Option, Some, Ordering, Less, Equal, Greater, refl, ap, ◌∙◌, arith, string_bytes, string_cmp, nat_cmp, is_eq, cond}
 use Rattle.std.proofs.lemmas.Bool.{and_parts}
 use Rattle.std.proofs.lemmas.Str.{IsUtf8-string_bytes, is_utf8-from_IsUtf8}
 use Rattle.std.specs.List.Sorted.{IsStrictlySortedBy}
 use Rattle.std.specs.Map.{keys_of, remove_entry}
 use Rattle.std.specs.BTreeMap.{is_at}
-use Rattle.fed_json.specs.Editing.{drop_member}
+use Rattle.fed_json.specs.Editing.{drop_member, item_after}
 use Rattle.std.specs.Ordering.{match_ordering, is_lt}
 use Rattle.std.specs.Cmp.Lexicographic.{slice_cmp}
 use Rattle.std.specs.Str.{is_utf8}
 use Rattle.serde_json.specs.Data.{Num, unsigned, negative, float, Data, null, boolean, number, string, array, object, Items, no_items, item, Members, no_members, member, depth, items_depth, members_depth, put}
 use Rattle.serde_json.specs.Find.{get, get_member, is_float, as_object}
 use Rattle.serde_json.specs.Written.{has_float, items_have_float, members_have_float}
-use Rattle.serde_json.specs.View.{view, members_view, items_of}
+use Rattle.serde_json.specs.View.{view, members_view, items_view, items_of}
 use Rattle.fed_json.specs.JsonRef.{list_of}
+use Rattle.serde_json.specs.declared.value.Value.{Value}
 use Rattle.serde_json.proofs.Views.{Entry}
-use Rattle.fed_json.specs.Profile.{IsWithin, MembersAreWithin, AreWithin, is_whole, all_whole, items_whole, members_whole, comes_before_first, keys_rise, members_rise}
+use Rattle.fed_json.specs.Profile.{IsWithin, MembersAreWithin, AreWithin, is_whole, all_whole, items_whole, items_rise, members_whole, comes_before_first, keys_rise, members_rise}
 use Rattle.fed_json.proofs.KeyOrder.{chars_order}
 
 -- ---- what a sorted map gives
@@ -171,3 +172,28 @@ as_object_within n (number x) ms h is = absurd (cc)
 as_object_within n (string s) ms h is = absurd (cc)
 as_object_within n (array ds) ms h is = absurd (cc)
 as_object_within n (object ns) ms h is = let same : ms ≡ ns = cc in rw same (members_within n ns h)
+
+-- ---- an item more
+
+pub items_view-after : (vs : List Value) (v : Value) → items_view (vs ++ v ∷ []) ≡ item_after (view v) (items_view vs)
+items_view-after [] v = refl
+items_view-after (u ∷ vs) v = ap (item (view u)) (items_view-after vs v)
+
+whole_after : (d : Data) (ds : Items) → all_whole d ≡ true → items_whole ds ≡ true → items_whole (item_after d ds) ≡ true
+whole_after d no_items w h = rw w refl
+whole_after d (item e ds) w h = let parts = and_parts (all_whole e) _ h in rw (parts.0, whole_after d ds w parts.1) refl
+
+rise_after : (d : Data) (ds : Items) → keys_rise d ≡ true → items_rise ds ≡ true → items_rise (item_after d ds) ≡ true
+rise_after d no_items w h = rw w refl
+rise_after d (item e ds) w h = let parts = and_parts (keys_rise e) _ h in rw (parts.0, rise_after d ds w parts.1) refl
+
+shallow_after : (n : ℕ) (d : Data) (ds : Items) → depth d ≤ n → items_depth ds ≤ n → items_depth (item_after d ds) ≤ n
+shallow_after n d no_items w h = omega (arith, w)
+shallow_after n d (item e ds) w h = let rest : items_depth ds ≤ n = omega (arith, h) in omega (arith, h, shallow_after n d ds w rest)
+
+pub within_after : (n : ℕ) (d : Data) (ds : Items) → IsWithin n d → AreWithin n ds → AreWithin n (item_after d ds)
+within_after n d ds one all = record {
+  whole = whole_after d ds one.whole all.whole;
+  rising = rise_after d ds one.rising all.rising;
+  shallow = shallow_after n d ds one.shallow all.shallow;
+}

@@ -1,14 +1,14 @@
 // A value that owns its parts.
-ghost use Rattle.std.specs.Prelude.{◌≡◌, ℕ, ◌↔◌, IsTrue, ◌<◌, ◌≤◌, ◌^◌, IfOk, OnOk, OnErr, IsSome, Some, string_bytes, option_map, map};
+ghost use Rattle.std.specs.Prelude.{◌≡◌, ℕ, true, ◌↔◌, IsTrue, ◌<◌, ◌≤◌, ◌^◌, IfOk, OnOk, OnErr, IsSome, Some, string_bytes, option_map, map};
 ghost use Rattle.serde_json.specs.Data.{depth, unsigned, number, string, array, no_items, object, no_members, put};
 ghost use Rattle.serde_json.specs.Read.{max_depth};
-ghost use Rattle.serde_json.specs.Find.{as_str, as_object, get, get_member};
+ghost use Rattle.serde_json.specs.Find.{as_str, as_object, get, get_member, of_integer};
 ghost use Rattle.fed_json.specs.JsonRef.{seen, as_whole, as_items, as_members};
 ghost use Rattle.fed_json.specs.Items.{left};
 ghost use Rattle.fed_json.specs.Members.{members_left};
 ghost use Rattle.serde_json.specs.View.{items_view, members_view, view as value_view};
-ghost use Rattle.fed_json.specs.Profile.{AreWithin, IsWithin, MembersAreWithin};
-ghost use Rattle.fed_json.specs.Editing.{without, with_member, drop_member};
+ghost use Rattle.fed_json.specs.Profile.{AreWithin, IsWithin, MembersAreWithin, is_whole};
+ghost use Rattle.fed_json.specs.Editing.{without, with_member, drop_member, with_item, item_after};
 
 use crate::fault::NoMemory;
 use crate::items::Items;
@@ -68,6 +68,16 @@ impl Json {
     {
         Json {
             value: Value::from(whole),
+        }
+    }
+
+    /// A whole number from -(2^53)+1 to 2^53-1.
+    pub fn from_signed(signed: i64) -> Json
+        requires { is_whole (of_integer signed) ≡ true }
+        ensures { result ≡ number (of_integer signed) }
+    {
+        Json {
+            value: Value::from(signed),
         }
     }
 
@@ -159,6 +169,19 @@ impl Json {
         Ok(())
     }
 
+    /// Adds an item at the end of an array; another value stays as it is. An error leaves the value as it was.
+    pub fn push(&mut self, item: Json) -> Result<(), NoMemory>
+        requires { depth item < max_depth }
+        ensures ok { OnOk result (self.new ≡ with_item item self.old) }
+        ensures err { OnErr result (self.new ≡ self.old) }
+    {
+        let Json { value } = item;
+        if let Some(items) = self.value.as_array_mut() {
+            push_item(items, value)?;
+        }
+        Ok(())
+    }
+
     /// The items of an array, each moved out of it.
     pub fn into_items(self, alloc: Global) -> Result<Vec<Json>, NoMemory>
         requires { IsSome (as_items self) }
@@ -215,6 +238,17 @@ fn insert_member(
         → MembersAreWithin n (members_view members.new.entries) }
 {
     drop(members.insert(name, value)?);
+    Ok(())
+}
+
+// An error leaves the items as they were.
+fn push_item(items: &mut Vec<Value>, value: Value) -> Result<(), NoMemory>
+    ensures ok { OnOk result (items_view items.new.items ≡ item_after (value_view value) (items_view items.old.items)) }
+    ensures err { OnErr result (items.new.items ≡ items.old.items) }
+    ensures within { (n : ℕ) → IsWithin n (value_view value) → AreWithin n (items_view items.old.items)
+        → AreWithin n (items_view items.new.items) }
+{
+    items.push(value)?;
     Ok(())
 }
 
