@@ -41,7 +41,8 @@ impl<R> Candidate<R> {
     }
 }
 
-// The places of some events in order: of those that are not listed, each time the first that is ready.
+// The places of some events, which are below a count, in order: of those that are not listed, each time the first that is ready. It takes
+// time in proportion to the square of how many they are.
 pub(crate) fn in_order<R: Ord>(
     alloc: Global,
     count: usize,
@@ -64,7 +65,7 @@ pub(crate) fn in_order<R: Ord>(
 }
 
 // The place of the first of those that are not listed, but all that they come after. `fronts` has, for each, how many at the front of
-// what it comes after are known to be listed: no event is looked at twice for this.
+// what it comes after are known to be listed, so that these are not looked at again.
 fn first_ready<R: Ord>(
     candidates: &[Candidate<R>],
     is_listed: &[bool],

@@ -24,32 +24,6 @@ pub fn is_power_event(event: &Pdu) -> bool
     is_rule_event(event) || is_removal(event)
 }
 
-// Whether an event is a state event of the power levels or the join rules.
-fn is_rule_event(event: &Pdu) -> bool
-    ensures { result ≡ is_rule_event event.now }
-{
-    event.state_key().is_some()
-        && matches!(event.kind(), "m.room.power_levels" | "m.room.join_rules")
-}
-
-// Whether an event is a member event by which a user takes another one's membership away.
-fn is_removal(event: &Pdu) -> bool
-    ensures { result ≡ is_removal event.now }
-{
-    let Some(user) = event.state_key() else {
-        return false;
-    };
-    event.kind() == "m.room.member"
-        && removes(Membership::of_content(event.content()))
-        && user != event.sender()
-}
-
-fn removes(membership: Membership) -> bool
-    ensures { result ≡ removes membership }
-{
-    matches!(membership, Membership::Leave | Membership::Ban)
-}
-
 /// The power events of a full conflicted set, and what of the set is in their auth chains (room version 2, "State resolution",
 /// "Algorithm", step 1), as a mark for each place of the graph. The auth chains are walked once, all together.
 ///
@@ -88,4 +62,30 @@ fn power_events(alloc: Global, graph: &Graph, set: &[bool]) -> Result<Vec<bool>,
         marks.push(set[place] && is_power_event(stored.event.event()))?;
     }
     Ok(marks)
+}
+
+// Whether an event is a state event of the power levels or the join rules.
+fn is_rule_event(event: &Pdu) -> bool
+    ensures { result ≡ is_rule_event event.now }
+{
+    event.state_key().is_some()
+        && matches!(event.kind(), "m.room.power_levels" | "m.room.join_rules")
+}
+
+// Whether an event is a member event by which a user takes another one's membership away.
+fn is_removal(event: &Pdu) -> bool
+    ensures { result ≡ is_removal event.now }
+{
+    let Some(user) = event.state_key() else {
+        return false;
+    };
+    event.kind() == "m.room.member"
+        && removes(Membership::of_content(event.content()))
+        && user != event.sender()
+}
+
+fn removes(membership: Membership) -> bool
+    ensures { result ≡ removes membership }
+{
+    matches!(membership, Membership::Leave | Membership::Ban)
 }

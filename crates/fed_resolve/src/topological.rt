@@ -20,7 +20,7 @@ type PowerRank<'a> = Rank<'a, Reverse<Level>>;
 /// A set of events in the reverse topological power order (room version 2, "State resolution", "Definitions"): an event comes after those
 /// of the set that are in its auth chain, and of the others the greater level of the sender comes first, then the earlier time, then the
 /// smaller id. The level of a sender is that by the power levels event and the create event among the auth events. The auth chain of each
-/// event is walked once.
+/// event is walked once; beside this it takes time in proportion to the square of the set.
 ///
 /// # Errors
 ///
