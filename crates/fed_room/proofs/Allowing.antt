@@ -1,38 +1,71 @@
 -- What is prepared of the event that is made of a draft.
-use Rattle.std.proofs.Common.{◌≡◌, List, Bool, true, false, if◌then◌else◌, Option, Some, None, Ok, Err, ap}
+use Rattle.std.proofs.Common.{◌≡◌, List, Bool, true, false, if◌then◌else◌, Option, Some, None, Result, Ok, Err, ◌⊎◌, inl, inr, refl, sym, ap, ◌∙◌}
+use Rattle.serde_json.specs.Data.{Data}
 use Rattle.fed_event.specs.declared.fault.PduFault.{PduFault}
 use Rattle.fed_event.specs.Checked.{CheckedEvent, checked_of}
 use Rattle.fed_event.specs.Tests.{first_fault_of}
 use Rattle.fed_room_contract.specs.declared.refusal.Refusal.{Refusal}
-use Rattle.fed_room_contract.specs.declared.refusal.Refusal.TheVariants.{NotOwnUser, BadDraft}
+use Rattle.fed_room_contract.specs.declared.refusal.Refusal.TheVariants.{Memory, NotOwnUser, BadDraft, NotAllowed}
 use Rattle.fed_room_contract.specs.declared.graph.Stored.{Stored}
+use Rattle.fed_room_contract.specs.declared.rule.Rule.{Rule}
+use Rattle.fed_room_contract.specs.declared.verdict.Verdict.{Verdict}
+use Rattle.fed_room_contract.specs.declared.verdict.Verdict.TheVariants.{Accepted, Rejected, SoftFailed}
 use Rattle.fed_room_contract.specs.Draft.{DraftFields}
-use Rattle.fed_room_contract.specs.Prepared.{Signer, is_own_user, sealed_by, if_allowed, if_event, prepared_of}
-use Rattle.fed_room.specs.Parts.{parts_of}
+use Rattle.fed_room_contract.specs.Prepared.{PreparedEvent, Signer, is_own_user, sealed_by, if_accepted, if_allowed, if_event, prepared_of}
+use Rattle.fed_room_contract.specs.Room.{Rules, rule_of}
+use Rattle.fed_room.specs.Parts.{EventLinks, parts_of}
 use Rattle.fed_room.specs.Made.{if_passes, made_of}
-use Rattle.fed_room.specs.Table.{TableState}
-use Rattle.fed_room.specs.TableRoom.{rules_of}
 
--- it depends on the table's verdict on that event
-pub prepared-made : (table : TableState) (signer : Signer) (events : List Stored) (draft : DraftFields) (event : CheckedEvent)
-    → made_of signer draft ≡ Ok event → prepared_of (rules_of table) signer events draft ≡ if_allowed (rules_of table) signer events event
-prepared-made table signer events draft event h =
-    by (is_own_user signer.name draft.sender) (first_fault_of (sealed_by signer (parts_of draft))) h
-  where
-    by : (own : Bool) (fault : Option PduFault) → (if own then if_passes signer (sealed_by signer (parts_of draft)) fault else Err NotOwnUser) ≡ Ok event
-        → (if own then if_event (rules_of table) signer events (sealed_by signer (parts_of draft)) fault else Err NotOwnUser) ≡ if_allowed (rules_of table) signer events event
-    by true None t = let same : checked_of signer.checks (sealed_by signer (parts_of draft)) ≡ event = cc in ap (if_allowed (rules_of table) signer events) same
-    by true (Some fault) t = absurd (cc)
-    by false fault t = absurd (cc)
+-- rules that make an event of these links
+module _ (rules : Rules) (signer : Signer) (events : List Stored) (links : EventLinks) (draft : DraftFields) (same : rules.parts events draft ≡ parts_of links draft) where
+  abbrev sealed : Data
+  sealed = sealed_by signer (parts_of links draft)
 
--- what is not made is not prepared
-pub prepared-unmade : (table : TableState) (signer : Signer) (events : List Stored) (draft : DraftFields) (refusal : Refusal)
-    → made_of signer draft ≡ Err refusal → prepared_of (rules_of table) signer events draft ≡ Err refusal
-prepared-unmade table signer events draft refusal h =
-    by (is_own_user signer.name draft.sender) (first_fault_of (sealed_by signer (parts_of draft))) h
+  abbrev after : Bool → Data → Option PduFault → Result PreparedEvent Refusal
+  after own event fault = if own then if_event rules signer events event fault else Err NotOwnUser
+
+  told : prepared_of rules signer events draft ≡ after (is_own_user signer.name draft.sender) sealed (first_fault_of sealed)
+  told = ap (λ (parts : Data). after (is_own_user signer.name draft.sender) (sealed_by signer parts) (first_fault_of (sealed_by signer parts))) same
+
+  -- what is prepared depends on the verdict on that event
+  pub prepared-made : (event : CheckedEvent) → made_of signer links draft ≡ Ok event → prepared_of rules signer events draft ≡ if_allowed rules signer events event
+  prepared-made event h = told ∙ by (is_own_user signer.name draft.sender) (first_fault_of sealed) h
+    where
+      by : (own : Bool) (fault : Option PduFault) → (if own then if_passes signer sealed fault else Err NotOwnUser) ≡ Ok event → after own sealed fault ≡ if_allowed rules signer events event
+      by true None t = let same : checked_of signer.checks sealed ≡ event = cc in ap (if_allowed rules signer events) same
+      by true (Some fault) t = absurd (cc)
+      by false fault t = absurd (cc)
+
+  -- what is not made is not prepared
+  pub prepared-unmade : (refusal : Refusal) → made_of signer links draft ≡ Err refusal → prepared_of rules signer events draft ≡ Err refusal
+  prepared-unmade refusal h = told ∙ by (is_own_user signer.name draft.sender) (first_fault_of sealed) h
+    where
+      by : (own : Bool) (fault : Option PduFault) → (if own then if_passes signer sealed fault else Err NotOwnUser) ≡ Err refusal → after own sealed fault ≡ Err refusal
+      by true None t = absurd (cc)
+      by true (Some fault) t = let same : BadDraft fault ≡ refusal = cc in ap (λ (r : Refusal). Err r) same
+      by false fault t = let same : NotOwnUser ≡ refusal = cc in ap (λ (r : Refusal). Err r) same
+
+-- what is told of an event that is made
+module _ (rules : Rules) (signer : Signer) (events : List Stored) (draft : DraftFields) (links given : EventLinks) (parts : rules.parts events draft ≡ parts_of links draft) (same : given ≡ links) where
+  pub prepared-event : (event : CheckedEvent) → (Ok event ≡ made_of signer given draft) ⊎ (Ok event ≡ Err Memory) → prepared_of rules signer events draft ≡ if_allowed rules signer events event
+  prepared-event event (inl e) = prepared-made rules signer events links draft parts event (sym (e ∙ ap (λ (l : EventLinks). made_of signer l draft) same))
+  prepared-event event (inr e) = absurd (cc)
+
+-- the verdict decides
+pub refused-by : (rules : Rules) (signer : Signer) (events : List Stored) (event : CheckedEvent) (verdict : Verdict) (rule : Rule) → rules.decide events event ≡ verdict → rule_of verdict ≡ Some rule
+    → if_allowed rules signer events event ≡ Err (NotAllowed rule)
+refused-by rules signer events event verdict rule e h = ap (if_accepted rules signer events event) e ∙ by verdict h
   where
-    by : (own : Bool) (fault : Option PduFault) → (if own then if_passes signer (sealed_by signer (parts_of draft)) fault else Err NotOwnUser) ≡ Err refusal
-        → (if own then if_event (rules_of table) signer events (sealed_by signer (parts_of draft)) fault else Err NotOwnUser) ≡ Err refusal
-    by true None t = absurd (cc)
-    by true (Some fault) t = let same : BadDraft fault ≡ refusal = cc in ap (λ (r : Refusal). Err r) same
-    by false fault t = let same : NotOwnUser ≡ refusal = cc in ap (λ (r : Refusal). Err r) same
+    by : (verdict : Verdict) → rule_of verdict ≡ Some rule → if_accepted rules signer events event verdict ≡ Err (NotAllowed rule)
+    by Accepted h = absurd (cc)
+    by (Rejected other) h = let same : other ≡ rule = cc in ap (λ (r : Rule). Err (NotAllowed r)) same
+    by (SoftFailed other) h = let same : other ≡ rule = cc in ap (λ (r : Rule). Err (NotAllowed r)) same
+
+pub accepted-by : (rules : Rules) (signer : Signer) (events : List Stored) (event : CheckedEvent) (verdict : Verdict) → rules.decide events event ≡ verdict → rule_of verdict ≡ None
+    → if_allowed rules signer events event ≡ Ok (record { event = event; before = rules.before events event.event })
+accepted-by rules signer events event verdict e h = ap (if_accepted rules signer events event) e ∙ by verdict h
+  where
+    by : (verdict : Verdict) → rule_of verdict ≡ None → if_accepted rules signer events event verdict ≡ Ok (record { event = event; before = rules.before events event.event })
+    by Accepted h = refl
+    by (Rejected other) h = absurd (cc)
+    by (SoftFailed other) h = absurd (cc)

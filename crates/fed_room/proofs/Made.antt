@@ -1,5 +1,5 @@
 -- What is sealed of a draft.
-use Rattle.std.proofs.Common.{◌≡◌, ◌<◌, ◌≤◌, ℕ, List, [], ◌∷◌, ◌++◌, max, Bool, true, false, ◌&&◌, cond, if◌then◌else◌, Ordering, Less, Equal, Greater, nat_cmp, find, Option, Some, None, Err, arith, codes, refl, sym, ap, ◌∙◌, subst}
+use Rattle.std.proofs.Common.{◌≡◌, ◌<◌, ◌≤◌, ℕ, List, [], ◌∷◌, ◌++◌, map, max, Bool, true, false, ◌&&◌, cond, if◌then◌else◌, Ordering, Less, Equal, Greater, nat_cmp, find, Option, Some, None, Err, arith, codes, refl, sym, ap, ◌∙◌, subst}
 use Rattle.std.proofs.Math.Nat.{le_trans, le-max_left, le-max_right}
 use Rattle.std.proofs.lemmas.Bool.{lt-ltb}
 use Rattle.std.proofs.lemmas.Slice.Eq.{bytes_eq-Decides}
@@ -8,7 +8,11 @@ use Rattle.std.specs.Ordering.{match_ordering}
 use Rattle.std.specs.Cmp.Lexicographic.{slice_cmp}
 use Rattle.serde_json.specs.Data.{Data, null, boolean, number, string, array, object, Members, no_members, member, depth, members_depth}
 use Rattle.serde_json.specs.Find.{get, get_member}
+use Rattle.serde_json.specs.View.{items_of}
 use Rattle.fed_json.specs.Editing.{with_member}
+use Rattle.fed_json.specs.JsonRef.{list_of}
+use Rattle.fed_json.proofs.Parts.{list_of-items_of}
+use Rattle.fed_event.specs.Fields.{text_in, prev_events_of, auth_events_of}
 use Rattle.fed_event.specs.declared.field.Field.TheVariants.{Event}
 use Rattle.fed_event.specs.declared.fault.PduFault.{PduFault}
 use Rattle.fed_event.specs.declared.fault.PduFault.TheVariants.{TooDeep, WrongKind, TooLarge}
@@ -18,9 +22,9 @@ use Rattle.fed_event.specs.Tests.{fails, first_fault_of, missing_tests, kind_tes
 use Rattle.fed_room_contract.specs.declared.refusal.Refusal.TheVariants.{NotOwnUser, BadDraft}
 use Rattle.fed_room_contract.specs.declared.graph.Stored.{Stored}
 use Rattle.fed_room_contract.specs.Draft.{DraftFields, Bears}
-use Rattle.fed_room_contract.specs.Graph.{is_stored, named_by, is_ready}
+use Rattle.fed_room_contract.specs.Graph.{is_stored, is_ready}
 use Rattle.fed_room_contract.specs.Prepared.{Signer, is_own_user, sealed_by}
-use Rattle.fed_room.specs.Parts.{fields_of, with_state_key, parts_of}
+use Rattle.fed_room.specs.Parts.{EventLinks, fields_of, with_state_key, parts_of}
 use Rattle.fed_room.specs.Lawful.{whole}
 use Rattle.fed_room.specs.Made.{if_passes, made_of}
 
@@ -43,23 +47,36 @@ depth-get k (string s) v h = absurd (cc)
 depth-get k (array ds) v h = absurd (cc)
 depth-get k (object ms) v h = omega (arith, depth-member k ms v h)
 
+-- ---- the ids in an array
+
+text_ids : (ids : List (List ℕ)) → map text_in (map (λ id. string id) ids) ≡ ids
+text_ids [] = refl
+text_ids (id ∷ ids) = ap (λ xs. id ∷ xs) (text_ids ids)
+
+texts-back : (ids : List (List ℕ)) → map text_in (list_of (items_of (map (λ id. string id) ids))) ≡ ids
+texts-back ids = ap (map text_in) (list_of-items_of (map (λ id. string id) ids)) ∙ text_ids ids
+
 -- ---- a draft that nests too deep
 
-module _ (server key : List ℕ) (sign : List ℕ → List ℕ) (draft : DraftFields) where
+module _ (server key : List ℕ) (sign : List ℕ → List ℕ) (links : EventLinks) (draft : DraftFields) where
   abbrev sealed : Option (List ℕ) → Data
-  sealed state_key = sealed_of server key sign (with_state_key state_key (fields_of draft))
+  sealed state_key = sealed_of server key sign (with_state_key state_key (fields_of links draft))
 
   content-sealed : (state_key : Option (List ℕ)) → get (codes "content") (sealed state_key) ≡ Some draft.content
   content-sealed None = refl
   content-sealed (Some k) = refl
 
-  nothing_named : (state_key : Option (List ℕ)) → named_by (sealed state_key) ≡ []
-  nothing_named None = refl
-  nothing_named (Some k) = refl
+  prev-sealed : (state_key : Option (List ℕ)) → prev_events_of (sealed state_key) ≡ links.prev_events
+  prev-sealed None = texts-back links.prev_events
+  prev-sealed (Some k) = texts-back links.prev_events
 
-sent_by : (server : List ℕ) (draft : DraftFields) (state_key : Option (List ℕ)) → domain_of draft.sender ≡ server → IsSentBy server (with_state_key state_key (fields_of draft))
-sent_by server draft None h = h
-sent_by server draft (Some k) h = h
+  auth-sealed : (state_key : Option (List ℕ)) → auth_events_of (sealed state_key) ≡ links.auth_events
+  auth-sealed None = texts-back links.auth_events
+  auth-sealed (Some k) = texts-back links.auth_events
+
+sent_by : (server : List ℕ) (links : EventLinks) (draft : DraftFields) (state_key : Option (List ℕ)) → domain_of draft.sender ≡ server → IsSentBy server (with_state_key state_key (fields_of links draft))
+sent_by server links draft None h = h
+sent_by server links draft (Some k) h = h
 
 abbrev later_tests : List PduFault
 later_tests = WrongKind Event ∷ TooLarge ∷ (missing_tests ++ (kind_tests ++ (length_tests ++ count_tests)))
@@ -71,39 +88,63 @@ too_deep : (event : Data) → 100 < depth event → first_fault_of event ≡ Som
 unfolding first_fault_of
 too_deep event h = found_first (fails event) TooDeep later_tests (lt-ltb 100 (depth event) h)
 
-pub made-deep : (signer : Signer) (draft : DraftFields) → is_own_user signer.name draft.sender ≡ true → 100 < depth draft.content → made_of signer draft ≡ Err (BadDraft TooDeep)
-made-deep signer draft own h =
-    let event = sealed_by signer (parts_of draft) in
-    let within = depth-get (codes "content") event draft.content (content-sealed signer.name signer.key signer.sign draft draft.state_key) in
+pub made-deep : (signer : Signer) (draft : DraftFields) → is_own_user signer.name draft.sender ≡ true → 100 < depth draft.content → (links : EventLinks) → made_of signer links draft ≡ Err (BadDraft TooDeep)
+made-deep signer draft own h links =
+    let event = sealed_by signer (parts_of links draft) in
+    let within = depth-get (codes "content") event draft.content (content-sealed signer.name signer.key signer.sign links draft draft.state_key) in
     ap (λ b. if b then if_passes signer event (first_fault_of event) else Err NotOwnUser) own
     ∙ ap (if_passes signer event) (too_deep event (omega (arith, h, within)))
+
+pub made-foreign : (signer : Signer) (draft : DraftFields) → is_own_user signer.name draft.sender ≡ false → (links : EventLinks) → made_of signer links draft ≡ Err NotOwnUser
+made-foreign signer draft foreign links =
+    let event = sealed_by signer (parts_of links draft) in
+    ap (λ b. if b then if_passes signer event (first_fault_of event) else Err NotOwnUser) foreign
 
 second : (a b : Bool) → (a && b) ≡ true → b ≡ true
 second true b h = h
 second false b h = absurd (cc)
 
-pub sent_by_own : (signer : Signer) (draft : DraftFields) → is_own_user signer.name draft.sender ≡ true → IsSentBy signer.name (parts_of draft)
-sent_by_own signer draft own =
-    sent_by signer.name draft draft.state_key ((bytes_eq-Decides (domain_of draft.sender) signer.name).0 (second (is_user_id draft.sender) _ own))
+pub sent_by_own : (signer : Signer) (links : EventLinks) (draft : DraftFields) → is_own_user signer.name draft.sender ≡ true → IsSentBy signer.name (parts_of links draft)
+sent_by_own signer links draft own =
+    sent_by signer.name links draft draft.state_key ((bytes_eq-Decides (domain_of draft.sender) signer.name).0 (second (is_user_id draft.sender) _ own))
 
--- ---- it is ready wherever it is stored
+-- ---- what it names
 
-pub ready-sealed : (server key : List ℕ) (sign : List ℕ → List ℕ) (draft : DraftFields) (parts event : Data) → parts ≡ parts_of draft → event ≡ sealed_of server key sign parts
-    → (events : List Stored) → is_ready events event ≡ true
-ready-sealed server key sign draft parts event made same events =
-    ap (is_ready events) (same ∙ ap (sealed_of server key sign) made) ∙ ap (list_all (is_stored events)) (nothing_named server key sign draft draft.state_key)
+module _ (server key : List ℕ) (sign : List ℕ → List ℕ) (links : EventLinks) (draft : DraftFields) (parts event : Data) (made : parts ≡ parts_of links draft) (same : event ≡ sealed_of server key sign parts) where
+  whole-event : event ≡ sealed server key sign links draft draft.state_key
+  whole-event = same ∙ ap (sealed_of server key sign) made
+
+  pub prev_events-sealed : prev_events_of event ≡ links.prev_events
+  prev_events-sealed = ap prev_events_of whole-event ∙ prev-sealed server key sign links draft draft.state_key
+
+  pub auth_events-sealed : auth_events_of event ≡ links.auth_events
+  auth_events-sealed = ap auth_events_of whole-event ∙ auth-sealed server key sign links draft draft.state_key
 
 -- ---- it has the fields of the draft
 
-bear-sealed : (server key : List ℕ) (sign : List ℕ → List ℕ) (draft : DraftFields) (state_key : Option (List ℕ)) → draft.at_ms ≤ 9007199254740991 → state_key ≡ draft.state_key
-    → Bears draft (sealed server key sign draft state_key)
-bear-sealed server key sign draft None h e = record { room = refl; sender = refl; kind = refl; state_key = e; content = refl; at_ms = whole draft.at_ms h }
-bear-sealed server key sign draft (Some k) h e = record { room = refl; sender = refl; kind = refl; state_key = e; content = refl; at_ms = whole draft.at_ms h }
+bear-sealed : (server key : List ℕ) (sign : List ℕ → List ℕ) (links : EventLinks) (draft : DraftFields) (state_key : Option (List ℕ)) → draft.at_ms ≤ 9007199254740991 → state_key ≡ draft.state_key
+    → Bears draft (sealed server key sign links draft state_key)
+bear-sealed server key sign links draft None h e = record { room = refl; sender = refl; kind = refl; state_key = e; content = refl; at_ms = whole draft.at_ms h }
+bear-sealed server key sign links draft (Some k) h e = record { room = refl; sender = refl; kind = refl; state_key = e; content = refl; at_ms = whole draft.at_ms h }
 
-pub sealed_bears : (server key : List ℕ) (sign : List ℕ → List ℕ) (draft : DraftFields) (parts event : Data) → draft.at_ms ≤ 9007199254740991 → parts ≡ parts_of draft
+pub sealed_bears : (server key : List ℕ) (sign : List ℕ → List ℕ) (links : EventLinks) (draft : DraftFields) (parts event : Data) → draft.at_ms ≤ 9007199254740991 → parts ≡ parts_of links draft
     → event ≡ sealed_of server key sign parts → Bears draft event
-sealed_bears server key sign draft parts event h made same =
-    subst (Bears draft) (sym (same ∙ ap (sealed_of server key sign) made)) (bear-sealed server key sign draft draft.state_key h refl)
+sealed_bears server key sign links draft parts event h made same =
+    subst (Bears draft) (sym (same ∙ ap (sealed_of server key sign) made)) (bear-sealed server key sign links draft draft.state_key h refl)
+
+-- ---- an event that names what is stored is ready
+
+all_append : {X : Type 0} (p : X → Bool) (xs ys : List X) → list_all p xs ≡ true → list_all p ys ≡ true → list_all p (xs ++ ys) ≡ true
+all_append p [] ys h k = k
+all_append p (x ∷ xs) ys h k = by (p x) h (all_append p xs ys)
+  where
+    by : (b : Bool) → (b && list_all p xs) ≡ true → (list_all p xs ≡ true → list_all p ys ≡ true → list_all p (xs ++ ys) ≡ true) → (b && list_all p (xs ++ ys)) ≡ true
+    by true t more = more t k
+    by false t more = t
+
+pub ready_naming : (events : List Stored) (event : Data) (prev auth : List (List ℕ)) → prev_events_of event ≡ prev → auth_events_of event ≡ auth → list_all (is_stored events) prev ≡ true
+    → list_all (is_stored events) auth ≡ true → is_ready events event ≡ true
+ready_naming events event prev auth p a one two = (λ i. list_all (is_stored events) (p i ++ a i)) ∙ all_append (is_stored events) prev auth one two
 
 -- ---- a member more
 

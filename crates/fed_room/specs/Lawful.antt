@@ -20,7 +20,7 @@ use Rattle.fed_room_contract.proofs.States.{key_cmp_total}
 use Rattle.fed_room.specs.declared.table.Row.{Row}
 use Rattle.fed_room.specs.Table.{TableState, keeping, is_named, before_in}
 use Rattle.fed_room.specs.TableRoom.{rules_of}
-use Rattle.fed_room.specs.Parts.{fields_of, with_state_key, parts_of}
+use Rattle.fed_room.specs.Parts.{EventLinks, no_links, fields_of, with_state_key, parts_of}
 
 -- the moment is less than 2 ^ 63
 pub whole : (n : ℕ) → n ≤ 9007199254740991 → unwrap_or (if nat_lt n (2 ^ 63) then Some (pos n) else None) (pos 0) ≡ pos n
@@ -30,12 +30,12 @@ whole n h = by (nat_lt n (2 ^ 63)) refl
     by true t = refl
     by false f = absurd (true≢false (sym (le-leb (2 ^ 63) 9007199254740991 (le_trans (ltb-false n (2 ^ 63) f) h))))
 
-bear : (key : Option (List ℕ)) (draft : DraftFields) → draft.at_ms ≤ 9007199254740991 → key ≡ draft.state_key → Bears draft (with_state_key key (fields_of draft))
-bear None draft h e = record { room = refl; sender = refl; kind = refl; state_key = e; content = refl; at_ms = whole draft.at_ms h }
-bear (Some key) draft h e = record { room = refl; sender = refl; kind = refl; state_key = e; content = refl; at_ms = whole draft.at_ms h }
+bear : (key : Option (List ℕ)) (links : EventLinks) (draft : DraftFields) → draft.at_ms ≤ 9007199254740991 → key ≡ draft.state_key → Bears draft (with_state_key key (fields_of links draft))
+bear None links draft h e = record { room = refl; sender = refl; kind = refl; state_key = e; content = refl; at_ms = whole draft.at_ms h }
+bear (Some key) links draft h e = record { room = refl; sender = refl; kind = refl; state_key = e; content = refl; at_ms = whole draft.at_ms h }
 
-parts_bear : (draft : DraftFields) → draft.at_ms ≤ 9007199254740991 → Bears draft (parts_of draft)
-parts_bear draft h = bear draft.state_key draft h refl
+pub parts_bear : (links : EventLinks) (draft : DraftFields) → draft.at_ms ≤ 9007199254740991 → Bears draft (parts_of links draft)
+parts_bear links draft h = bear draft.state_key links draft h refl
 
 -- ---- states of stored events
 
@@ -75,5 +75,5 @@ table_lawful table = record {
   stays = λ events more event graph ready. refl;
   before = λ events event graph ready. before_stored events event (finite.get table.rows (event_id_of event)) ready;
   current = λ events graph. kept_passes (is_stored events) table.current;
-  bears = λ events draft moment. parts_bear draft moment;
+  bears = λ events draft moment. parts_bear no_links draft moment;
 }

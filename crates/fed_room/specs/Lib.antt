@@ -3,3 +3,12 @@ pub mod Parts
 pub mod Made
 pub mod TableRoom
 pub mod Lawful
+pub mod States
+pub mod StatesParts
+pub mod Decision
+pub mod Links
+pub mod LinksParts
+pub mod Room
+pub mod RoomParts
+pub mod RoomLawful
+pub mod Start

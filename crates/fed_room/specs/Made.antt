@@ -8,7 +8,7 @@ use Rattle.fed_room_contract.specs.declared.refusal.Refusal.{Refusal}
 use Rattle.fed_room_contract.specs.declared.refusal.Refusal.TheVariants.{NotOwnUser, BadDraft}
 use Rattle.fed_room_contract.specs.Draft.{DraftFields}
 use Rattle.fed_room_contract.specs.Prepared.{Signer, is_own_user, sealed_by}
-use Rattle.fed_room.specs.Parts.{parts_of}
+use Rattle.fed_room.specs.Parts.{EventLinks, parts_of}
 
 module _ (signer : Signer) where
   -- what is sealed has to pass the tests of an event
@@ -16,8 +16,8 @@ module _ (signer : Signer) where
   if_passes sealed (Some fault) = Err (BadDraft fault)
   if_passes sealed None = Ok (checked_of signer.checks sealed)
 
-  abbrev pub made_of : DraftFields → Result CheckedEvent Refusal
-  made_of draft =
+  abbrev pub made_of : EventLinks → DraftFields → Result CheckedEvent Refusal
+  made_of links draft =
       if is_own_user signer.name draft.sender
-      then if_passes (sealed_by signer (parts_of draft)) (first_fault_of (sealed_by signer (parts_of draft)))
+      then if_passes (sealed_by signer (parts_of links draft)) (first_fault_of (sealed_by signer (parts_of links draft)))
       else Err NotOwnUser

@@ -6,7 +6,7 @@ use Rattle.fed_room_contract.specs.Prepared.{PreparedEvent}
 use Rattle.fed_room_contract.specs.Room.{Rules, RoomState, event_id}
 use Rattle.fed_room_contract.specs.Store.{StoreState, store_code}
 use Rattle.fed_room.specs.Table.{TableState, table_code, verdict_at, before_at, current_at}
-use Rattle.fed_room.specs.Parts.{parts_of}
+use Rattle.fed_room.specs.Parts.{no_links, parts_of}
 
 pub record TableRoomState : Type 0 where
   pub table : TableState
@@ -25,7 +25,7 @@ rules_of table = record {
   decide = λ _ event. verdict_at table (event_id event);
   before = λ _ event. before_at table event;
   current = λ events. current_at table events;
-  parts = λ _ draft. parts_of draft;
+  parts = λ _ draft. parts_of no_links draft;
 }
 
 -- the store has room for the event, which is ready

@@ -1,15 +1,33 @@
-//! What keeps a room by a table: verdicts and states that a test gives, under the contract of rooms.
+//! What keeps a room under the contract of rooms: a room by the standard, and one by a table that a test gives.
 //!
+//! - `room`: `Room`, a room by the standard
+//! - `states`: the states after its events
+//! - `resolved`: states that are kept or made
+//! - `decision`: the verdict on an event, and the state after it
+//! - `start`: a room that begins with some events
+//! - `start_fault`: why no room begins with some events
+//! - `places`: the places of stored events
+//! - `links`: what the event of a draft names
+//! - `drafting`: the event that is made of a draft
 //! - `table`: `Table`, verdicts on events and the states before them
 //! - `entries`: a state of some entries
-//! - `drafting`: the event that is made of a draft
 //! - `table_room`: `TableRoom`, a room that goes by a table
 #![tactic(auto)]
 
+mod decision;
 mod drafting;
 mod entries;
+mod links;
+mod places;
+mod resolved;
+mod room;
+mod start;
+mod start_fault;
+mod states;
 mod table;
 mod table_room;
 
+pub use room::Room;
+pub use start_fault::StartFault;
 pub use table::Table;
 pub use table_room::TableRoom;

@@ -2,7 +2,8 @@
 ghost use Rattle.std.specs.Prelude.{◌≡◌, None};
 ghost use Rattle.fed_room_contract.specs.Room.{empty_room};
 
-use crate::drafting::made;
+use crate::drafting::{check, made};
+use crate::links::Links;
 use crate::table::Table;
 use fed_event::{Checked, EventId, Keys};
 use fed_json::NoMemory;
@@ -83,7 +84,8 @@ impl RoomEngine for TableRoom {
         draft: Draft,
         keys: &K,
     ) -> Result<Prepared, Refusal> {
-        let event = made(alloc, draft, keys)?;
+        check(&draft, keys)?;
+        let event = made(alloc, draft, Links::none(alloc), keys)?;
         if let Some(rule) = self.table.verdict(event.event().id().as_str()).rule() {
             return Err(Refusal::NotAllowed(rule));
         }

@@ -1,0 +1,88 @@
+use Rattle.std.proofs.Common.{◌≡◌, ℕ, List, [], ◌∷◌, ◌++◌, Option, None, Some, IfSome, refl, sym, ap, ◌∙◌, subst}
+use Rattle.std.proofs.lemmas.Option.{slice_get_read}
+use Rattle.std.specs.Prelude.{option_map, unwrap_or}
+use Rattle.std.specs.List.{slice_get, slice_index_or}
+use Rattle.fed_event.specs.Checked.{CheckedEvent}
+use Rattle.fed_room_contract.specs.declared.graph.Stored.{Stored}
+use Rattle.fed_room_contract.specs.Graph.{IsGraph, is_ready}
+use Rattle.fed_room_contract.specs.GraphState.{GraphState}
+use Rattle.fed_room_contract.specs.declared.receipt.Receipt.TheVariants as receipt
+use Rattle.fed_room_contract.specs.Room.{event_id, first_ready, with_ready, with_stored}
+use Rattle.fed_room_contract.specs.Store.{StoreState, after_store}
+use Rattle.fed_room_contract.proofs.Apart.{found_passes}
+use Rattle.fed_room.specs.Decision.{verdict_of}
+use Rattle.fed_room.specs.Room.{RoomValue, room_of, room_rules}
+use Rattle.fed_room.specs.RoomLawful.{kept-push}
+use Rattle.fed_room.specs.States.{state_with, state_before, states_after}
+use Rattle.fed_room.specs.StatesParts.{KeptStates}
+use Rattle.fed_room.proofs.room.RoomRoomEngine.advance.Goals as goal
+
+pub decided-requires : goal.decided-requires
+decided-requires c =
+    let old = c.self.inside.store in
+    let waiting = old.room.waiting in
+    let place = c.in-Some.place in
+    let event = c.index-waiting-place.result in
+    let reserved = c.in_ok-id.ensures.ok in
+    let same : c.waiting.result.now ≡ waiting = c.waiting.ensures ∙ ap (λ (s : StoreState). s.room.waiting) reserved in
+    let at : slice_get waiting place ≡ Some event = slice_get_read waiting _ place event refl c.in-Some.ensures.within (c.index-waiting-place.is ∙ ap (λ ws. slice_index_or ws place event) same) in
+    let found : first_ready old.room ≡ Some event = c.in-Some.ensures.first ∙ at in
+    ap (λ (s : StoreState). is_ready s.room.stored event.event) reserved ∙ found_passes (λ (w : CheckedEvent). is_ready old.room.stored w.event) waiting event found
+
+pub invariant_of-self-3 : goal.invariant_of-self-3
+invariant_of-self-3 c =
+    let old = c.self.inside.store in
+    let kept = c.self.inside.states.after in
+    let place = c.in-Some.place in
+    let event = c.index-waiting-place.result in
+    let last : Stored = record { event = event; verdict = c.in_ok-verdict.verdict } in
+    let reserved = c.in_ok-id.ensures.ok in
+    let same : c.waiting.result.now ≡ old.room.waiting = c.waiting.ensures ∙ ap (λ (s : StoreState). s.room.waiting) reserved in
+    let at : slice_get old.room.waiting place ≡ Some event = slice_get_read old.room.waiting _ place event refl c.in-Some.ensures.within (c.index-waiting-place.is ∙ ap (λ ws. slice_index_or ws place event) same) in
+    let at-now : slice_get c.reserve_waiting.new.self.room.waiting place ≡ Some event = ap (λ (s : StoreState). slice_get s.room.waiting place) reserved ∙ at in
+    let new : c.store_waiting.new.self ≡ after_store c.reserve_waiting.new.self event c.in_ok-verdict.verdict =
+    subst (λ (o : Option CheckedEvent). IfSome o (λ e. c.store_waiting.new.self ≡ after_store c.reserve_waiting.new.self e c.in_ok-verdict.verdict)) at-now c.store_waiting.ensures in
+    let stored : c.store_waiting.new.self.room.stored ≡ old.room.stored ++ last ∷ [] =
+    ap (λ (s : StoreState). s.room.stored) new ∙ ap (λ (s : StoreState). s.room.stored ++ last ∷ []) reserved in
+    let graph : IsGraph c.store_waiting.new.self.room.stored = subst (λ (g : GraphState). IsGraph g.stored) c.graph.ensures c.events-stored.ensures.graph in
+    let pushed : c.push_ready.new.self ≡ record { after = kept ++ c.in_ok-verdict.after ∷ []; next = None } =
+    subst (λ (s : KeptStates). IfSome s.next (λ state. c.push_ready.new.self ≡ record { after = s.after ++ state ∷ []; next = None })) c.in_ok-make_ready.ensures.ok c.push_ready.ensures in
+    let after : c.in_ok-verdict.after ≡ state_with (state_before old.room.stored event.event) last =
+    c.in_ok-verdict.ensures.after ∙ ap (λ (s : StoreState). state_with (state_before s.room.stored event.event) last) reserved in
+    record {
+      graph = graph;
+      after = ap (λ (s : KeptStates). s.after) pushed ∙ kept-push old.room.stored last kept c.in_ok-verdict.after (subst IsGraph stored graph) c.self.invariant.after after ∙ ap states_after (sym stored);
+    }
+
+pub returns-clause-stored : goal.returns-clause-stored
+returns-clause-stored c =
+    let old = c.self.inside.store in
+    let now = c.args.self.now.store.room.stored in
+    let place = c.in-Some.place in
+    let event = c.index-waiting-place.result in
+    let reserved = c.in_ok-id.ensures.ok in
+    let same : c.waiting.result.now ≡ old.room.waiting = c.waiting.ensures ∙ ap (λ (s : StoreState). s.room.waiting) reserved in
+    let at : slice_get old.room.waiting place ≡ Some event = slice_get_read old.room.waiting _ place event refl c.in-Some.ensures.within (c.index-waiting-place.is ∙ ap (λ ws. slice_index_or ws place event) same) in
+    let found : first_ready (room_of c.args.self.now) ≡ Some event = ap (λ (r : RoomValue). first_ready (room_of r)) (sym c.self.view_is) ∙ c.in-Some.ensures.first ∙ at in
+    let id : event_id event ≡ c.in_ok-id.id = ap (λ (o : Option (List ℕ)). unwrap_or o []) (sym (ap (option_map event_id) at) ∙ c.in_ok-id.ensures.id) in
+    let verdict : c.in_ok-verdict.verdict ≡ verdict_of now event =
+    c.in_ok-verdict.ensures.verdict ∙ ap (λ (s : StoreState). verdict_of s.room.stored event) reserved ∙ ap (λ (r : RoomValue). verdict_of r.store.room.stored event) c.self.view_is in
+    (λ i. Some (sym id i, receipt.Stored (verdict i))) ∙ sym (ap (option_map (λ (e : CheckedEvent). (event_id e, receipt.Stored (verdict_of now e)))) found)
+
+pub returns-clause-after : goal.returns-clause-after
+returns-clause-after c =
+    let old = c.self.inside.store in
+    let now = c.args.self.now.store.room.stored in
+    let place = c.in-Some.place in
+    let event = c.index-waiting-place.result in
+    let reserved = c.in_ok-id.ensures.ok in
+    let same : c.waiting.result.now ≡ old.room.waiting = c.waiting.ensures ∙ ap (λ (s : StoreState). s.room.waiting) reserved in
+    let at : slice_get old.room.waiting place ≡ Some event = slice_get_read old.room.waiting _ place event refl c.in-Some.ensures.within (c.index-waiting-place.is ∙ ap (λ ws. slice_index_or ws place event) same) in
+    let at-now : slice_get c.reserve_waiting.new.self.room.waiting place ≡ Some event = ap (λ (s : StoreState). slice_get s.room.waiting place) reserved ∙ at in
+    let new : c.store_waiting.new.self ≡ after_store c.reserve_waiting.new.self event c.in_ok-verdict.verdict =
+    subst (λ (o : Option CheckedEvent). IfSome o (λ e. c.store_waiting.new.self ≡ after_store c.reserve_waiting.new.self e c.in_ok-verdict.verdict)) at-now c.store_waiting.ensures in
+    let found : first_ready (room_of c.args.self.now) ≡ Some event = ap (λ (r : RoomValue). first_ready (room_of r)) (sym c.self.view_is) ∙ c.in-Some.ensures.first ∙ at in
+    let verdict : c.in_ok-verdict.verdict ≡ verdict_of now event =
+    c.in_ok-verdict.ensures.verdict ∙ ap (λ (s : StoreState). verdict_of s.room.stored event) reserved ∙ ap (λ (r : RoomValue). verdict_of r.store.room.stored event) c.self.view_is in
+    let room : c.reserve_waiting.new.self.room ≡ room_of c.args.self.now = ap (λ (s : StoreState). s.room) reserved ∙ ap (λ (r : RoomValue). r.store.room) c.self.view_is in
+    ap (λ (s : StoreState). s.room) new ∙ (λ i. with_stored (room i) event (verdict i)) ∙ sym (ap (with_ready room_rules (room_of c.args.self.now)) found)
