@@ -3,17 +3,19 @@ use crate::reading::Reading;
 
 /// What a line asks for.
 #[derive(Clone, Copy)]
-pub(crate) enum Line {
+pub(crate) enum Line<'a> {
     Send(u64),
     Read(Reading),
+    Resolve(&'a str),
 }
 
 /// What a line asks for, where it has the right words.
-pub(crate) fn line_of(line: &str) -> Option<Line> {
+pub(crate) fn line_of(line: &str) -> Option<Line<'_>> {
     let (name, words) = line.split_once(' ')?;
     match name {
         "send" => Some(Line::Send(words.parse().ok()?)),
         "read" => Some(Line::Read(reading_of(words)?)),
+        "resolve" => Some(Line::Resolve(words)),
         _ => None,
     }
 }

@@ -1,7 +1,8 @@
 // From events that are offered to transactions that are settled.
+use crate::checked::checked;
 use crate::stop::Stop;
 use fed_dest::{MAX_SERVERS, ServerIndex, ServerSet};
-use fed_event::{CheckFault, Checked, Pdu, PduFault, Trusting, check_in};
+use fed_event::Checked;
 use fed_journal::{Journal, JournalFault, Load, Parcel};
 use fed_outbox::{Outbox, OutboxFault};
 use fed_txn::write;
@@ -85,17 +86,7 @@ fn event(alloc: Global, number: u64) -> Result<Checked, Stop> {
     let text = format!(in alloc;
         "{{\"auth_events\":[],\"content\":{{\"body\":\"message {number}\",\"msgtype\":\"m.text\"}},\"depth\":{number},\"hashes\":{{\"sha256\":\"\"}},\"origin_server_ts\":{number},\"prev_events\":[],\"room_id\":\"!r:a.example\",\"sender\":\"@u:a.example\",\"signatures\":{{\"a.example\":{{\"standin:1\":\"{SIGNATURE}\"}}}},\"type\":\"m.room.message\"}}"
     )?;
-    let keys = Trusting::new(String::from_str(alloc, ORIGIN)?);
-    let event = match Pdu::read(alloc, text.as_bytes()) {
-        Ok(event) => event,
-        Err(PduFault::Memory) => return Err(Stop::Memory),
-        Err(_) => return Err(Stop::Refused),
-    };
-    match check_in(alloc, event, &keys) {
-        Ok(event) => Ok(event),
-        Err(CheckFault::Memory) => Err(Stop::Memory),
-        Err(CheckFault::BadSignature) => Err(Stop::Refused),
-    }
+    checked(alloc, ORIGIN, &text)
 }
 
 const SIGNATURE: &str =

@@ -1,7 +1,7 @@
 // Why there is nothing to count.
 use fed_json::NoMemory;
 use std::alloc::AllocFailed;
-use std::fmt;
+use std::{fmt, io};
 
 /// Why there is nothing to count.
 #[derive(Drop)]
@@ -10,6 +10,8 @@ pub(crate) enum Stop {
     Memory,
     /// A call was refused.
     Refused,
+    /// A file could not be read, or the clock.
+    System,
     /// The line asks for nothing that there is.
     WrongWords,
 }
@@ -19,6 +21,7 @@ impl fmt::Display for Stop {
         f.write_str(match self {
             Stop::Memory => "out of memory",
             Stop::Refused => "a call was refused",
+            Stop::System => "a file or the clock could not be read",
             Stop::WrongWords => "wrong words",
         })
     }
@@ -33,5 +36,11 @@ impl From<NoMemory> for Stop {
 impl<T: Drop> From<AllocFailed<T>> for Stop {
     fn from(_error: AllocFailed<T>) -> Stop {
         Stop::Memory
+    }
+}
+
+impl From<io::Error> for Stop {
+    fn from(_error: io::Error) -> Stop {
+        Stop::System
     }
 }
