@@ -11,11 +11,11 @@ fn keys(alloc: Global, server: &str) -> Result<StandIn, Fail> {
     Ok(StandIn::new(String::from_str(alloc, server)?))
 }
 
-// The request as b.example reads it from pieces.
-fn as_read(alloc: Global, request: &Request, piece: usize) -> Result<Option<Request>, Fail> {
+// The request as b.example reads it from pieces of seven bytes.
+fn as_read(alloc: Global, request: &Request) -> Result<Option<Request>, Fail> {
     let bytes = write_request(alloc, request)?;
     let mut reader = Reader::requests(alloc);
-    for part in bytes.chunks(piece) {
+    for part in bytes.chunks(7) {
         if let (Some(Message::Request(read)), _) = reader.feed(alloc, part)? {
             return Ok(Some(read));
         }
@@ -38,7 +38,7 @@ fn a_request_on_its_whole_way(rt: HostRuntime) -> Result<(), Fail> {
         body,
         &keys(alloc, "a.example")?,
     )?;
-    let Some(read) = as_read(alloc, &sent, 7)? else {
+    let Some(read) = as_read(alloc, &sent)? else {
         panic!(rt; "no request was read");
     };
     let mut inbox = inbox(alloc)?;
@@ -47,7 +47,9 @@ fn a_request_on_its_whole_way(rt: HostRuntime) -> Result<(), Fail> {
         write_reply(alloc, &reply)?.as_slice(),
         b"HTTP/1.1 200 OK\r\nContent-Type: application/json\r\nContent-Length: 11\r\nConnection: close\r\n\r\n{\"pdus\":{}}".as_slice()
     );
-    assert_eq!(rt; inbox.taken_edus("a.example").count(), 1);
+    let mut edus = inbox.taken_edus("a.example");
+    assert_eq!(rt; edus.next(), Some(b"{\"content\":{},\"edu_type\":\"m.x\"}".as_slice()));
+    assert_eq!(rt; edus.next(), None);
     Ok(())
 }
 

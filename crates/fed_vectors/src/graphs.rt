@@ -7,7 +7,7 @@ use crate::key_ring::KeyRing;
 use crate::made::{List, count, null};
 use crate::verdicts::verdict_in;
 use fed_event::{Checked, EventId, Pdu};
-use fed_json::JsonRef;
+use fed_json::{Items, JsonRef};
 use fed_room_contract::{Graph, Rule, State};
 use std::alloc::Global;
 
@@ -44,8 +44,8 @@ fn auth_places(alloc: Global, graph: &Graph, event: &Pdu) -> Answer {
     }
 }
 
-// The places of the events that a state names.
-fn places_of(alloc: Global, graph: &Graph, state: &State) -> Answer {
+/// The places of the events that a state names, in the order of its entries.
+pub(crate) fn places_of(alloc: Global, graph: &Graph, state: &State) -> Answer {
     let mut places = List::new(alloc);
     for entry in &state.entries(alloc)? {
         places = places.with(place_of(alloc, graph, entry.id));
@@ -136,10 +136,20 @@ fn store(row: Arguments<'_>, graph: &mut Graph, keys: &KeyRing) -> Result<(), St
 
 /// The state that the events at the places of `state` make, each laid over those before.
 pub(crate) fn state(call: Arguments<'_>, graph: &Graph) -> Result<State, Stop> {
+    state_at(call, "state", call.items("state")?, graph)
+}
+
+/// The state that the events at these places make, each laid over those before.
+pub(crate) fn state_at(
+    call: Arguments<'_>,
+    name: &str,
+    places: Items<'_>,
+    graph: &Graph,
+) -> Result<State, Stop> {
     let mut state = State::new(call.alloc);
-    for item in call.items("state")? {
+    for item in places {
         let Some((event, state_key)) = state_event_at(graph, item) else {
-            return Err(call.wrong_kind("state"));
+            return Err(call.wrong_kind(name));
         };
         state.insert(
             call.alloc,

@@ -4,8 +4,8 @@ use crate::answer::{Answer, Stop};
 use crate::arguments::Arguments;
 use crate::made::Object;
 use crate::{
-    events, graphs, inboxes, journals, outboxes, requests, servers, signatures, streams,
-    table_rooms, transactions, values,
+    events, graphs, inboxes, journals, outboxes, requests, resolution, rooms, servers, signatures,
+    streams, table_rooms, transactions, values,
 };
 use fed_json::{Json, MAX_LEVELS, canonical, read_within};
 use std::alloc::Global;
@@ -71,6 +71,7 @@ fn answer_later_call(name: &str, call: Arguments<'_>) -> Answer {
         "allowed" => graphs::allowed(call),
         "auth_state" => graphs::auth_state(call),
         "selection" => graphs::selection(call),
+        "room" => rooms::room(call),
         "table_room" => table_rooms::table_room(call),
         _ => answer_sending_call(name, call),
     }
@@ -98,6 +99,7 @@ fn answer_message_call(name: &str, call: Arguments<'_>) -> Answer {
         "request_text" => requests::request_text(call),
         "write_request" => requests::written_request(call),
         "write_reply" => requests::written_reply(call),
+        "resolution" => resolution::resolution(call),
         _ => Err(Stop::wrong(String::from_str(call.alloc, "unknown call"))),
     }
 }

@@ -2,8 +2,8 @@
 //! which calls there are. It has no logic of its own: it reads arguments, makes the call and prints what the call gives.
 //!
 //! - `lines`: from the line of a call to the line of its answer
-//! - `values`, `events`, `signatures`, `transactions`, `inboxes`, `graphs`, `table_rooms`, `servers`, `journals`, `outboxes`: the calls,
-//!   floor by floor
+//! - `values`, `events`, `signatures`, `transactions`, `inboxes`, `graphs`, `resolution`, `rooms`, `table_rooms`, `servers`, `journals`,
+//!   `outboxes`: the calls, floor by floor
 //! - `room_steps`: the operations on a room
 //! - `offers`: the events and the EDUs that a call gives
 //! - `arguments`, `key_ring`: what a call is given
@@ -22,7 +22,9 @@ mod made;
 mod offers;
 mod outboxes;
 mod requests;
+mod resolution;
 mod room_steps;
+mod rooms;
 mod servers;
 mod signatures;
 mod streams;

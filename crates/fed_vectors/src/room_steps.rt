@@ -8,12 +8,28 @@ use crate::key_ring::KeyRing;
 use crate::made::{List, Object, count, ids, null, text};
 use crate::verdicts::{receipt_words, verdict_words};
 use fed_event::EventId;
-use fed_json::Json;
+use fed_json::{Json, JsonRef};
 use fed_room_contract::{Draft, Receipt, Refusal, RoomEngine, State, advance_all};
 use std::alloc::Global;
 
-/// Makes the operation that an object names, and tells its answer.
-pub(crate) fn step<R: RoomEngine>(
+/// What becomes of a room with each operation.
+pub(crate) fn answers<R: RoomEngine>(call: Arguments<'_>, keys: &KeyRing, room: &mut R) -> Answer {
+    let mut answers = List::new(call.alloc);
+    for item in call.items("operations")? {
+        answers = answers.with(answer(call.alloc, item, keys, room));
+    }
+    answers.into_answer()
+}
+
+// The answer to an operation, and what can be seen of the room behind it.
+fn answer<R: RoomEngine>(alloc: Global, item: JsonRef<'_>, keys: &KeyRing, room: &mut R) -> Answer {
+    let operation = Arguments::of(alloc, item, "operations")?;
+    let answer = step(operation.only_name()?, operation, room, keys);
+    with_room(alloc, answer, room)
+}
+
+// Makes the operation that an object names, and tells its answer.
+fn step<R: RoomEngine>(
     name: &str,
     operation: Arguments<'_>,
     room: &mut R,
@@ -125,8 +141,8 @@ fn entries(alloc: Global, state: &State) -> Answer {
     list.into_answer()
 }
 
-/// An answer, and what can be seen of the room.
-pub(crate) fn with_room<R: RoomEngine>(alloc: Global, answer: Answer, room: &R) -> Answer {
+// An answer, and what can be seen of the room.
+fn with_room<R: RoomEngine>(alloc: Global, answer: Answer, room: &R) -> Answer {
     Object::new(alloc)
         .with("answer", answer)
         .with("dropped", count(alloc, room.dropped()))

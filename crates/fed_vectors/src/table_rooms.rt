@@ -2,9 +2,7 @@
 
 use crate::answer::{Answer, Stop};
 use crate::arguments::Arguments;
-use crate::key_ring::KeyRing;
-use crate::made::List;
-use crate::room_steps::{step, with_room};
+use crate::room_steps::answers;
 use crate::verdicts::verdict_in;
 use fed_event::event_id;
 use fed_json::{Items, JsonRef};
@@ -17,21 +15,6 @@ pub(crate) fn table_room(call: Arguments<'_>) -> Answer {
     let keys = call.keys(call.text("own")?)?;
     let mut room = TableRoom::new(call.alloc, table(call)?);
     answers(call, &keys, &mut room)
-}
-
-fn answers(call: Arguments<'_>, keys: &KeyRing, room: &mut TableRoom) -> Answer {
-    let mut answers = List::new(call.alloc);
-    for item in call.items("operations")? {
-        answers = answers.with(answer(call.alloc, item, keys, room));
-    }
-    answers.into_answer()
-}
-
-// The answer to an operation, and what can be seen of the room behind it.
-fn answer(alloc: Global, item: JsonRef<'_>, keys: &KeyRing, room: &mut TableRoom) -> Answer {
-    let operation = Arguments::of(alloc, item, "operations")?;
-    let answer = step(operation.only_name()?, operation, room, keys);
-    with_room(alloc, answer, room)
 }
 
 fn table(call: Arguments<'_>) -> Result<Table, Stop> {
