@@ -48,7 +48,10 @@ fn a_request_on_its_whole_way(rt: HostRuntime) -> Result<(), Fail> {
         b"HTTP/1.1 200 OK\r\nContent-Type: application/json\r\nContent-Length: 11\r\nConnection: close\r\n\r\n{\"pdus\":{}}".as_slice()
     );
     let mut edus = inbox.taken_edus("a.example");
-    assert_eq!(rt; edus.next(), Some(b"{\"content\":{},\"edu_type\":\"m.x\"}".as_slice()));
+    assert_eq!(rt;
+        edus.next(),
+        Some(b"{\"content\":{},\"edu_type\":\"m.x\"}".as_slice())
+    );
     assert_eq!(rt; edus.next(), None);
     Ok(())
 }
