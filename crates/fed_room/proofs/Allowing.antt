@@ -14,7 +14,7 @@ use Rattle.fed_room_contract.specs.Draft.{DraftFields}
 use Rattle.fed_room_contract.specs.Prepared.{PreparedEvent, Signer, is_own_user, sealed_by, if_accepted, if_allowed, if_event, prepared_of}
 use Rattle.fed_room_contract.specs.Room.{Rules, rule_of}
 use Rattle.fed_room.specs.Parts.{EventLinks, parts_of}
-use Rattle.fed_room.specs.Made.{if_passes, made_of}
+use Rattle.fed_room.specs.Made.{if_passes, or_bad_draft, made_of}
 
 -- rules that make an event of these links
 module _ (rules : Rules) (signer : Signer) (events : List Stored) (links : EventLinks) (draft : DraftFields) (same : rules.parts events draft ≡ parts_of links draft) where
@@ -31,7 +31,7 @@ module _ (rules : Rules) (signer : Signer) (events : List Stored) (links : Event
   pub prepared-made : (event : CheckedEvent) → made_of signer links draft ≡ Ok event → prepared_of rules signer events draft ≡ if_allowed rules signer events event
   prepared-made event h = told ∙ by (is_own_user signer.name draft.sender) (first_fault_of sealed) h
     where
-      by : (own : Bool) (fault : Option PduFault) → (if own then if_passes signer sealed fault else Err NotOwnUser) ≡ Ok event → after own sealed fault ≡ if_allowed rules signer events event
+      by : (own : Bool) (fault : Option PduFault) → (if own then or_bad_draft signer (if_passes signer sealed fault) else Err NotOwnUser) ≡ Ok event → after own sealed fault ≡ if_allowed rules signer events event
       by true None t = let same : checked_of signer.checks sealed ≡ event = cc in ap (if_allowed rules signer events) same
       by true (Some fault) t = absurd (cc)
       by false fault t = absurd (cc)
@@ -40,7 +40,7 @@ module _ (rules : Rules) (signer : Signer) (events : List Stored) (links : Event
   pub prepared-unmade : (refusal : Refusal) → made_of signer links draft ≡ Err refusal → prepared_of rules signer events draft ≡ Err refusal
   prepared-unmade refusal h = told ∙ by (is_own_user signer.name draft.sender) (first_fault_of sealed) h
     where
-      by : (own : Bool) (fault : Option PduFault) → (if own then if_passes signer sealed fault else Err NotOwnUser) ≡ Err refusal → after own sealed fault ≡ Err refusal
+      by : (own : Bool) (fault : Option PduFault) → (if own then or_bad_draft signer (if_passes signer sealed fault) else Err NotOwnUser) ≡ Err refusal → after own sealed fault ≡ Err refusal
       by true None t = absurd (cc)
       by true (Some fault) t = let same : BadDraft fault ≡ refusal = cc in ap (λ (r : Refusal). Err r) same
       by false fault t = let same : NotOwnUser ≡ refusal = cc in ap (λ (r : Refusal). Err r) same

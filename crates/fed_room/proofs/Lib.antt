@@ -5,3 +5,4 @@ pub mod Arrays
 pub mod AtPlaces
 pub mod Tips
 pub mod Kept
+pub mod KeysOf

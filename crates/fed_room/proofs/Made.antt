@@ -1,5 +1,5 @@
 -- What is sealed of a draft.
-use Rattle.std.proofs.Common.{◌≡◌, ◌<◌, ◌≤◌, ℕ, List, [], ◌∷◌, ◌++◌, map, max, Bool, true, false, ◌&&◌, cond, if◌then◌else◌, Ordering, Less, Equal, Greater, nat_cmp, find, Option, Some, None, Err, arith, codes, refl, sym, ap, ◌∙◌, subst}
+use Rattle.std.proofs.Common.{◌≡◌, ◌<◌, ◌≤◌, ℕ, List, [], ◌∷◌, ◌++◌, map, max, Bool, true, false, ◌&&◌, cond, if◌then◌else◌, Ordering, Less, Equal, Greater, nat_cmp, find, Option, Some, None, Result, Ok, Err, ◌⊎◌, inl, inr, arith, codes, refl, sym, ap, ◌∙◌, subst}
 use Rattle.std.proofs.Math.Nat.{le_trans, le-max_left, le-max_right}
 use Rattle.std.proofs.lemmas.Bool.{lt-ltb}
 use Rattle.std.proofs.lemmas.Slice.Eq.{bytes_eq-Decides}
@@ -15,18 +15,21 @@ use Rattle.fed_json.proofs.Parts.{list_of-items_of}
 use Rattle.fed_event.specs.Fields.{text_in, prev_events_of, auth_events_of}
 use Rattle.fed_event.specs.declared.field.Field.TheVariants.{Event}
 use Rattle.fed_event.specs.declared.fault.PduFault.{PduFault}
+use Rattle.fed_event.specs.declared.fault.PduFault.TheVariants as fault
 use Rattle.fed_event.specs.declared.fault.PduFault.TheVariants.{TooDeep, WrongKind, TooLarge}
+use Rattle.fed_event.specs.Checked.{CheckedEvent}
 use Rattle.fed_event.specs.Ids.{is_user_id, domain_of}
 use Rattle.fed_event.specs.Sealing.{IsSentBy, sealed_of}
 use Rattle.fed_event.specs.Tests.{fails, first_fault_of, missing_tests, kind_tests, length_tests, count_tests}
-use Rattle.fed_room_contract.specs.declared.refusal.Refusal.TheVariants.{NotOwnUser, BadDraft}
+use Rattle.fed_room_contract.specs.declared.refusal.Refusal.{Refusal}
+use Rattle.fed_room_contract.specs.declared.refusal.Refusal.TheVariants.{Memory, NotOwnUser, BadDraft}
 use Rattle.fed_room_contract.specs.declared.graph.Stored.{Stored}
 use Rattle.fed_room_contract.specs.Draft.{DraftFields, Bears}
 use Rattle.fed_room_contract.specs.Graph.{is_stored, is_ready}
-use Rattle.fed_room_contract.specs.Prepared.{Signer, is_own_user, sealed_by}
+use Rattle.fed_room_contract.specs.Prepared.{Signer, is_own_user, sealed_by, refusal_of}
 use Rattle.fed_room.specs.Parts.{EventLinks, fields_of, with_state_key, parts_of}
 use Rattle.fed_room.specs.Lawful.{whole}
-use Rattle.fed_room.specs.Made.{if_passes, made_of}
+use Rattle.fed_room.specs.Made.{if_passes, event_of, or_bad_draft, made_of}
 
 -- ---- a member of an object is less deep
 
@@ -88,17 +91,51 @@ too_deep : (event : Data) → 100 < depth event → first_fault_of event ≡ Som
 unfolding first_fault_of
 too_deep event h = found_first (fails event) TooDeep later_tests (lt-ltb 100 (depth event) h)
 
-pub made-deep : (signer : Signer) (draft : DraftFields) → is_own_user signer.name draft.sender ≡ true → 100 < depth draft.content → (links : EventLinks) → made_of signer links draft ≡ Err (BadDraft TooDeep)
-made-deep signer draft own h links =
+pub event-deep : (signer : Signer) (draft : DraftFields) → 100 < depth draft.content → (links : EventLinks) → event_of signer links draft ≡ Err TooDeep
+event-deep signer draft h links =
     let event = sealed_by signer (parts_of links draft) in
     let within = depth-get (codes "content") event draft.content (content-sealed signer.name signer.key signer.sign links draft draft.state_key) in
-    ap (λ b. if b then if_passes signer event (first_fault_of event) else Err NotOwnUser) own
-    ∙ ap (if_passes signer event) (too_deep event (omega (arith, h, within)))
+    ap (if_passes signer event) (too_deep event (omega (arith, h, within)))
+
+pub made-deep : (signer : Signer) (draft : DraftFields) → is_own_user signer.name draft.sender ≡ true → 100 < depth draft.content → (links : EventLinks) → made_of signer links draft ≡ Err (BadDraft TooDeep)
+made-deep signer draft own h links =
+    ap (λ b. if b then or_bad_draft signer (event_of signer links draft) else Err NotOwnUser) own ∙ ap (or_bad_draft signer) (event-deep signer draft h links)
 
 pub made-foreign : (signer : Signer) (draft : DraftFields) → is_own_user signer.name draft.sender ≡ false → (links : EventLinks) → made_of signer links draft ≡ Err NotOwnUser
-made-foreign signer draft foreign links =
-    let event = sealed_by signer (parts_of links draft) in
-    ap (λ b. if b then if_passes signer event (first_fault_of event) else Err NotOwnUser) foreign
+made-foreign signer draft foreign links = ap (λ b. if b then or_bad_draft signer (event_of signer links draft) else Err NotOwnUser) foreign
+
+-- ---- what is told of a draft, by what is told of its event
+
+refusal_is : (f : PduFault) → (refusal_of f ≡ BadDraft f) ⊎ (refusal_of f ≡ Memory)
+refusal_is fault.Memory = inr refl
+refusal_is fault.NotJson = inl refl
+refusal_is fault.NotCanonical = inl refl
+refusal_is (fault.Missing field) = inl refl
+refusal_is (fault.WrongKind field) = inl refl
+refusal_is fault.TooLarge = inl refl
+refusal_is (fault.TooLong field) = inl refl
+refusal_is (fault.TooMany field) = inl refl
+refusal_is fault.TooDeep = inl refl
+
+abbrev pub or_refused : Result CheckedEvent PduFault → Result CheckedEvent Refusal
+or_refused (Ok event) = Ok event
+or_refused (Err f) = Err (refusal_of f)
+
+module _ (signer : Signer) (links : EventLinks) (draft : DraftFields) (own : is_own_user signer.name draft.sender ≡ true) where
+  made-is : made_of signer links draft ≡ or_bad_draft signer (event_of signer links draft)
+  made-is = ap (λ b. if b then or_bad_draft signer (event_of signer links draft) else Err NotOwnUser) own
+
+  told_by : (told : Result CheckedEvent PduFault) → told ≡ event_of signer links draft → (or_refused told ≡ made_of signer links draft) ⊎ (or_refused told ≡ Err Memory)
+  told_by (Ok event) e = inl (ap (or_bad_draft signer) e ∙ sym made-is)
+  told_by (Err f) e = by (refusal_is f)
+    where
+      by : (refusal_of f ≡ BadDraft f) ⊎ (refusal_of f ≡ Memory) → (or_refused (Err f) ≡ made_of signer links draft) ⊎ (or_refused (Err f) ≡ Err Memory)
+      by (inl same) = inl (ap (λ (r : Refusal). Err r) same ∙ ap (or_bad_draft signer) e ∙ sym made-is)
+      by (inr same) = inr (ap (λ (r : Refusal). Err r) same)
+
+  pub told-made : (told : Result CheckedEvent PduFault) → (told ≡ event_of signer links draft) ⊎ (told ≡ Err fault.Memory) → (or_refused told ≡ made_of signer links draft) ⊎ (or_refused told ≡ Err Memory)
+  told-made told (inl e) = told_by told e
+  told-made told (inr e) = inr (ap or_refused e)
 
 second : (a b : Bool) → (a && b) ≡ true → b ≡ true
 second true b h = h

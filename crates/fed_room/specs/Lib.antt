@@ -12,3 +12,7 @@ pub mod Room
 pub mod RoomParts
 pub mod RoomLawful
 pub mod Start
+pub mod StartedFault
+pub mod Line
+pub mod LineParts
+pub mod Creation

@@ -6,13 +6,14 @@ ghost use Rattle.serde_json.specs.Read.{max_depth};
 ghost use Rattle.fed_json.specs.Editing.{with_member};
 ghost use Rattle.fed_json.specs.Profile.{is_whole};
 ghost use Rattle.fed_room_contract.specs.declared.refusal.Refusal.TheVariants.{Memory, NotOwnUser, BadDraft};
+ghost use Rattle.fed_event.specs.declared.fault.PduFault.TheVariants as fault;
 ghost use Rattle.fed_event.specs.declared.fault.PduFault.TheVariants.{TooDeep};
 ghost use Rattle.fed_event.specs.Fields.{prev_events_of, auth_events_of};
 ghost use Rattle.fed_room_contract.specs.Draft.{Bears};
 ghost use Rattle.fed_room_contract.specs.Prepared.{signer_of, is_own_user};
 ghost use Rattle.fed_room.specs.LinksParts.{links_seen};
 ghost use Rattle.fed_room.specs.Parts.{EventLinks, array_of, with_state_key, parts_of};
-ghost use Rattle.fed_room.specs.Made.{made_of};
+ghost use Rattle.fed_room.specs.Made.{event_of, made_of};
 
 use crate::links::Links;
 use fed_event::{Checked, EventId, Keys, MAX_DEPTH, PduFault, domain, is_user_id, seal};
@@ -37,8 +38,22 @@ pub(crate) fn check<K: Keys>(draft: &Draft, keys: &K) -> Result<(), Refusal>
     if !is_own_user(&draft.sender, keys) {
         return Err(Refusal::NotOwnUser);
     }
+    Ok(check_depth(draft)?)
+}
+
+/// Looks at how deep the content of a draft nests, before an event is made of it. It takes no memory.
+///
+/// # Errors
+///
+/// `TooDeep` where the content nests too deep for an event.
+pub(crate) fn check_depth(draft: &Draft) -> Result<(), PduFault>
+    ensures deep { MAX_DEPTH < depth draft.now.content → result ≡ Err TooDeep }
+    ensures shallow { OnOk result (depth draft.now.content ≤ MAX_DEPTH) }
+    ensures fault { IfErr result (λ fault. fault ≡ TooDeep) }
+    ensures told { IfErr result (λ fault. MAX_DEPTH < depth draft.now.content) }
+{
     if draft.content.depth() > MAX_DEPTH {
-        return Err(Refusal::BadDraft(PduFault::TooDeep));
+        return Err(PduFault::TooDeep);
     }
     Ok(())
 }
@@ -63,12 +78,36 @@ pub(crate) fn made<K: Keys>(
     ensures prev_events { IfOk result (λ event. prev_events_of event.event ≡ links.prev_events.items) }
     ensures auth_events { IfOk result (λ event. auth_events_of event.event ≡ links.auth_events.items) }
 {
-    let parts = parts(alloc, draft, links)?;
-    Ok(seal(alloc, parts, keys)?)
+    Ok(sealed(alloc, draft, links, keys)?)
 }
 
-// Whether the sender is a user of the own server.
-fn is_own_user<K: Keys>(sender: &str, keys: &K) -> bool
+/// The event that the own server makes of a draft which `check_depth` has passed, with these links, its hash and its signature.
+///
+/// # Errors
+///
+/// The fault of what is made, where it is no event. `Memory` where memory ran out, in place of an event or a fault.
+pub(crate) fn sealed<K: Keys>(
+    alloc: Global,
+    draft: Draft,
+    links: Links,
+    keys: &K,
+) -> Result<Checked, PduFault>
+    requires own { is_own_user (K.own_name keys.now) draft.sender ≡ true }
+    requires shallow { depth draft.content ≤ MAX_DEPTH }
+    requires whole { is_whole (of_integer links.depth) ≡ true }
+    ensures told { let signer = signer_of (K.own_name keys.now) (K.own_key keys.now) (K.own_signature keys.now) (K.checks keys.now) in
+        (result ≡ event_of signer (links_seen links) draft) ⊎ (result ≡ Err fault.Memory) }
+    ensures bears { IfOk result (λ event. Bears draft event.event) }
+    ensures prev_events { IfOk result (λ event. prev_events_of event.event ≡ links.prev_events.items) }
+    ensures auth_events { IfOk result (λ event. auth_events_of event.event ≡ links.auth_events.items) }
+{
+    let parts = parts(alloc, draft, links)?;
+    let event = seal(alloc, parts, keys)?;
+    Ok(event)
+}
+
+/// Whether the sender is a user of the own server.
+pub(crate) fn is_own_user<K: Keys>(sender: &str, keys: &K) -> bool
     ensures { result ≡ is_own_user (K.own_name keys.now) sender.now }
 {
     is_user_id(sender) && domain(sender) == keys.own()

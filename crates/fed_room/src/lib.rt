@@ -6,6 +6,9 @@
 //! - `decision`: the verdict on an event, and the state after it
 //! - `start`: a room that begins with some events
 //! - `start_fault`: why no room begins with some events
+//! - `creation`: the events that a room of some users begins with
+//! - `started_fault`: why there are none
+//! - `line`: events that stand in one line
 //! - `places`: the places of stored events
 //! - `links`: what the event of a draft names
 //! - `drafting`: the event that is made of a draft
@@ -14,20 +17,25 @@
 //! - `table_room`: `TableRoom`, a room that goes by a table
 #![tactic(auto)]
 
+mod creation;
 mod decision;
 mod drafting;
 mod entries;
+mod line;
 mod links;
 mod places;
 mod resolved;
 mod room;
 mod start;
 mod start_fault;
+mod started_fault;
 mod states;
 mod table;
 mod table_room;
 
+pub use creation::started;
 pub use room::Room;
 pub use start_fault::StartFault;
+pub use started_fault::StartedFault;
 pub use table::Table;
 pub use table_room::TableRoom;

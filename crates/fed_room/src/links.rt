@@ -87,8 +87,8 @@ pub(crate) fn selection(
     selector.select(alloc, before)
 }
 
-// One more, in the range of an event's numbers.
-fn next_depth(depth: i64) -> i64
+/// One more, in the range of an event's numbers.
+pub(crate) fn next_depth(depth: i64) -> i64
     ensures depth { result ≡ next_depth depth }
     ensures whole { is_whole (of_integer result) ≡ true }
 {
