@@ -107,10 +107,15 @@ pub(crate) fn checked_in(alloc: Global, keys: &KeyRing, value: Json) -> Result<C
 }
 
 pub(crate) fn seal(call: Arguments<'_>) -> Answer {
-    let alloc = call.alloc;
     let keys = call.keys_or_stand_in(call.text("own")?)?;
-    match keys.seal(alloc, call.value("parts")?) {
-        Ok(Some(sealed)) => Ok(sealed.event().json().copy()?),
+    let event = sealed(call.alloc, &keys, call.value("parts")?)?;
+    Ok(event.event().json().copy()?)
+}
+
+/// The event of these parts that the server of the keys sends. The error is the verdict on it.
+pub(crate) fn sealed(alloc: Global, keys: &KeyRing, parts: Json) -> Result<Checked, Stop> {
+    match keys.seal(alloc, parts) {
+        Ok(Some(sealed)) => Ok(sealed),
         Ok(None) => Err(Stop::wrong(String::from_str(alloc, "sender of another server"))),
         Err(fault) => Err(Stop::error(fault.verdict_text(alloc))),
     }

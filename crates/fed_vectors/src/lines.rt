@@ -71,7 +71,9 @@ fn answer_later_call(name: &str, call: Arguments<'_>) -> Answer {
         "allowed" => graphs::allowed(call),
         "auth_state" => graphs::auth_state(call),
         "selection" => graphs::selection(call),
+        "started" => rooms::started(call),
         "room" => rooms::room(call),
+        "waiting" => rooms::waiting(call),
         "table_room" => table_rooms::table_room(call),
         _ => answer_sending_call(name, call),
     }

@@ -80,6 +80,15 @@ pub(crate) fn event_ids(alloc: Global, events: &[Checked]) -> Answer {
     list.into_answer()
 }
 
+/// The list of events, each with its hash and signatures.
+pub(crate) fn whole_events(alloc: Global, events: &[Checked]) -> Answer {
+    let mut list = List::new(alloc);
+    for event in events {
+        list = list.with(copy(event.event().json().root()));
+    }
+    list.into_answer()
+}
+
 /// The list of these values.
 pub(crate) fn list_of(alloc: Global, values: &[Json]) -> Answer {
     let mut list = List::new(alloc);
@@ -143,6 +152,14 @@ impl Object {
         Object {
             alloc,
             value: Ok(Json::empty_object(alloc)),
+        }
+    }
+
+    /// The object that a value is; one that is no object stays as it is.
+    pub(crate) fn of(alloc: Global, value: Json) -> Object {
+        Object {
+            alloc,
+            value: Ok(value),
         }
     }
 

@@ -7,7 +7,7 @@ use crate::graphs::wrong_event;
 use crate::key_ring::KeyRing;
 use crate::made::{List, Object, count, ids, null, text};
 use crate::verdicts::{receipt_words, verdict_words};
-use fed_event::EventId;
+use fed_event::{Checked, EventId};
 use fed_json::{Json, JsonRef};
 use fed_room_contract::{Draft, Receipt, Refusal, RoomEngine, State, advance_all};
 use std::alloc::Global;
@@ -68,6 +68,11 @@ fn receive<R: RoomEngine>(operation: Arguments<'_>, room: &mut R, keys: &KeyRing
         Ok(event) => event,
         Err(stop) => return Err(wrong_event(alloc, "receive", stop)),
     };
+    received(alloc, room, event)
+}
+
+/// What becomes of an event that a room receives.
+pub(crate) fn received<R: RoomEngine>(alloc: Global, room: &mut R, event: Checked) -> Answer {
     match room.receive(alloc, event) {
         Ok(receipt) => Ok(Json::from(receipt_words(alloc, receipt)?)),
         Err((event, _)) => {
