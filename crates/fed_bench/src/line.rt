@@ -7,6 +7,7 @@ pub(crate) enum Line<'a> {
     Send(u64),
     Read(Reading),
     Resolve(&'a str),
+    Room(u64),
 }
 
 /// What a line asks for, where it has the right words.
@@ -16,6 +17,7 @@ pub(crate) fn line_of(line: &str) -> Option<Line<'_>> {
         "send" => Some(Line::Send(words.parse().ok()?)),
         "read" => Some(Line::Read(reading_of(words)?)),
         "resolve" => Some(Line::Resolve(words)),
+        "room" => Some(Line::Room(words.parse().ok()?)),
         _ => None,
     }
 }
