@@ -110,6 +110,14 @@ again rules (suc n) room = again rules n (advanced rules room)
 pub advances_on : (rules : Rules) (old now new : RoomState) → IsAdvanced rules old now → new ≡ advanced rules now → IsAdvanced rules old new
 advances_on rules old now new h e = record { times = suc h.times; after = e ∙ ap (advanced rules) h.after ∙ again rules h.times old }
 
+none_advances : (rules : Rules) (room : RoomState) → first_ready room ≡ None → (n : ℕ) → room_after rules room (replicate n advance) ≡ room
+none_advances rules room none zero = refl
+none_advances rules room none (suc n) = ap (λ r. room_after rules r (replicate n advance)) (ap (with_ready rules room) none) ∙ none_advances rules room none n
+
+-- where none is ready none becomes ready
+pub none_is_left : (rules : Rules) (old new : RoomState) → IsAdvanced rules old new → first_ready old ≡ None → is_some (first_ready new) ≡ true → false ≡ true
+none_is_left rules old new h none left = sym (ap (λ r. is_some (first_ready r)) (h.after ∙ none_advances rules old none h.times) ∙ ap is_some none) ∙ left
+
 pub waits_less : {X : Type 0} (told : CheckedEvent → X) (rules : Rules) (room new : RoomState) → new ≡ advanced rules room → is_some (option_map told (first_ready room)) ≡ true → length new.waiting < length room.waiting
 waits_less told rules room new e h = subst (λ (r : RoomState). length r.waiting < length room.waiting) (sym e) (by (first_ready room) refl h)
   where

@@ -16,3 +16,4 @@ pub mod Runs
 pub mod Store
 pub mod StoreParts
 pub mod Arrival
+pub mod Applying

@@ -14,10 +14,12 @@
 //! - `store`: `EventStore`, the events that a room stores, lets wait and drops
 //! - `engine`: `RoomEngine`, what keeps a room
 //! - `advancing`: storing all waiting events that are ready
+//! - `applying`: giving a room an event, and storing all that is then ready
 //! - `laws`: what holds of all states and graphs
 #![tactic(auto)]
 
 mod advancing;
+mod applying;
 mod arrival;
 mod draft;
 mod engine;
@@ -35,6 +37,7 @@ mod store;
 mod verdict;
 
 pub use advancing::advance_all;
+pub use applying::{Applied, apply};
 pub use arrival::Arrival;
 pub use draft::Draft;
 pub use engine::RoomEngine;

@@ -9,7 +9,7 @@ use crate::made::{List, Object, count, ids, null, text};
 use crate::verdicts::{receipt_words, verdict_words};
 use fed_event::{Checked, EventId};
 use fed_json::{Json, JsonRef};
-use fed_room_contract::{Draft, Receipt, Refusal, RoomEngine, State, advance_all};
+use fed_room_contract::{Applied, Draft, Receipt, Refusal, RoomEngine, State, advance_all, apply};
 use std::alloc::Global;
 
 /// What becomes of a room with each operation.
@@ -37,6 +37,7 @@ fn step<R: RoomEngine>(
 ) -> Answer {
     match name {
         "receive" => receive(operation, room, keys),
+        "apply" => applied(operation, room, keys),
         "advance" => advance(operation.alloc, room),
         "advance_all" => {
             let stored = advance_all(operation.alloc, room)?;
@@ -63,12 +64,32 @@ fn look<R: RoomEngine>(name: &str, operation: Arguments<'_>, room: &R) -> Answer
 }
 
 fn receive<R: RoomEngine>(operation: Arguments<'_>, room: &mut R, keys: &KeyRing) -> Answer {
+    let event = given(operation, "receive", keys)?;
+    received(operation.alloc, room, event)
+}
+
+// The event that an operation gives.
+fn given(operation: Arguments<'_>, name: &str, keys: &KeyRing) -> Result<Checked, Stop> {
     let alloc = operation.alloc;
-    let event = match checked_in(alloc, keys, operation.value("receive")?) {
-        Ok(event) => event,
-        Err(stop) => return Err(wrong_event(alloc, "receive", stop)),
-    };
-    received(alloc, room, event)
+    match checked_in(alloc, keys, operation.value(name)?) {
+        Ok(event) => Ok(event),
+        Err(stop) => Err(wrong_event(alloc, name, stop)),
+    }
+}
+
+// What becomes of an event, and how many were stored after it.
+fn applied<R: RoomEngine>(operation: Arguments<'_>, room: &mut R, keys: &KeyRing) -> Answer {
+    let alloc = operation.alloc;
+    match apply(alloc, room, given(operation, "apply", keys)?) {
+        Ok(Applied { receipt, more }) => List::new(alloc)
+            .with(Ok(Json::from(receipt_words(alloc, receipt)?)))
+            .with(count(alloc, more as u64))
+            .into_answer(),
+        Err((back, _)) => {
+            drop(back);
+            Err(Stop::Memory)
+        }
+    }
 }
 
 /// What becomes of an event that a room receives.
