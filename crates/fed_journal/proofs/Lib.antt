@@ -1,3 +1,4 @@
 pub mod Lanes
 pub mod Entries
 pub mod Journals
+mod Placing

@@ -7,3 +7,4 @@ pub mod Left
 pub mod Lane
 pub mod LaneParts
 pub mod JournalParts
+pub mod Queues

@@ -1,11 +1,13 @@
 // What holds of all journals.
 ghost use Rattle.std.specs.Prelude.{◌≡◌, ◌≤◌, ◌+◌, ◌||◌, ℕ, List, [], ◌∷◌, ◌++◌, length, Some, None, true, slice_get, if◌then◌else◌};
-ghost use Rattle.std.specs.List.{filter_map};
-ghost use Rattle.std.specs.Option.{option_map};
+ghost use Rattle.std.specs.List.{filter_map, list_any};
+ghost use Rattle.std.specs.Option.{option_map, option_to_list};
 ghost use Rattle.fed_journal.specs.declared.entry.Entry.{Entry};
+ghost use Rattle.fed_journal.specs.declared.parcel.Parcel.{Parcel};
 ghost use Rattle.fed_journal.specs.Place.{PlaceValue};
 ghost use Rattle.fed_journal.specs.Journal.{closes, is_closed, event_for, edu_for, load_for, addressed, addressed_edus, loads, placed, next_place, parcels};
-ghost use Rattle.fed_journal.specs.Loads.{event_in_load, edu_in_load};
+ghost use Rattle.fed_journal.specs.Loads.{event_in_load, edu_in_load, is_end};
+ghost use Rattle.fed_journal.specs.Queues.{parcel_after};
 
 /// One more entry adds, at the end of what is addressed to a destination and placed for it, what it gives that destination; where the
 /// outbox is closed it adds nothing.
@@ -48,4 +50,13 @@ pub fn places_count()
         → (place.dest ≡ d) × (place.number ≡ placed entries d + 1) }
     ensures numbers { (entries : List Entry) (d k : ℕ) → slice_get (parcels entries d) k
         ≡ option_map (λ load. record { place = record { dest = d; number = k + 1 }; load = load }) (slice_get (loads entries d) k) }
+{}
+
+/// One more entry adds to the parcels that were placed for a destination the one that it places, if it places one, and none is placed
+/// behind an end.
+pub fn what_an_entry_places()
+    ensures parcels { (entries : List Entry) (entry : Entry) (d : ℕ)
+        → parcels (entries ++ entry ∷ []) d ≡ parcels entries d ++ option_to_list (parcel_after entries entry d) }
+    ensures end { (entries : List Entry) (d : ℕ) (before after : List Parcel) → parcels entries d ≡ before ++ after
+        → list_any (λ parcel. is_end parcel.load) before ≡ true → after ≡ [] }
 {}

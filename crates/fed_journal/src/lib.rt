@@ -23,7 +23,8 @@ pub use entry::{Cause, Entry};
 pub use fault::JournalFault;
 pub use journal::Journal;
 pub use laws::{
-    nothing_after_the_close, places_count, what_is_addressed_is_placed, what_one_more_entry_adds,
+    nothing_after_the_close, places_count, what_an_entry_places, what_is_addressed_is_placed,
+    what_one_more_entry_adds,
 };
 pub use left::{Addressed, AddressedEdus, Events};
 pub use parcel::{Load, Parcel};

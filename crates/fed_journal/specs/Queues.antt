@@ -1,0 +1,19 @@
+-- What an entry sends to each destination: the queues of parcels that go from a journal to the outboxes. The standard says nothing of how
+-- a server keeps what it offers.
+use Rattle.std.specs.Prelude.{◌+◌, ℕ, List, ◌++◌, Option, None, if◌then◌else◌}
+use Rattle.std.specs.Option.{option_map, option_to_list}
+use Rattle.fed_journal.specs.declared.entry.Entry.{Entry}
+use Rattle.fed_journal.specs.declared.parcel.Load.{Load}
+use Rattle.fed_journal.specs.declared.parcel.Parcel.{Parcel}
+use Rattle.fed_journal.specs.Journal.{is_closed, placed, load_for}
+
+-- what an entry places for d behind these entries: nothing where its outbox is closed
+abbrev pub load_after : List Entry → Entry → ℕ → Option Load
+load_after entries entry d = if is_closed entries d then None else load_for d entry
+
+abbrev pub parcel_after : List Entry → Entry → ℕ → Option Parcel
+parcel_after entries entry d = option_map (λ load. record { place = record { dest = d; number = placed entries d + 1 }; load = load }) (load_after entries entry d)
+
+-- the queue of d with what the entry places for d
+abbrev pub queue_after : List Entry → Entry → ℕ → List Parcel → List Parcel
+queue_after entries entry d queue = queue ++ option_to_list (parcel_after entries entry d)
