@@ -89,7 +89,7 @@ place_is o place next =
     let number : place.number ≡ expected o = eqb-true place.number (expected o) both.1 in
     ap (λ d. record { dest = d; number = place.number }) dest ∙ ap (λ n. record { dest = o.dest; number = n }) number
 
-with_load_adds : (o : OutboxState) (parcel : Parcel) → fits o parcel.place ≡ true → Adds o parcel (with_load o parcel.load)
+pub with_load_adds : (o : OutboxState) (parcel : Parcel) → fits o parcel.place ≡ true → Adds o parcel (with_load o parcel.load)
 with_load_adds o parcel fit =
     let both = and_true (not o.has_end) (is_next o parcel.place) fit in
     go parcel.load both.0 (place_is o parcel.place both.1)

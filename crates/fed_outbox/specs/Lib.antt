@@ -6,3 +6,5 @@ pub mod Together
 pub mod Parts
 pub mod Lending
 pub mod Runs
+pub mod Collecting
+pub mod Following

@@ -3,11 +3,17 @@ ghost use Rattle.std.specs.Prelude.{◌≡◌, ◌≢◌, ◌≤◌, ◌<◌, �
 ghost use Rattle.serde_json.specs.Data.{Data};
 ghost use Rattle.fed_event.specs.Checked.{CheckedEvent};
 ghost use Rattle.fed_journal.specs.declared.parcel.Parcel.{Parcel};
-ghost use Rattle.fed_journal.specs.Journal.{numbered};
+ghost use Rattle.fed_journal.specs.declared.entry.Entry.{Entry};
+ghost use Rattle.fed_journal.specs.Journal.{numbered, parcels, addressed, addressed_edus};
+ghost use Rattle.fed_journal.specs.Queues.{queue_after};
 ghost use Rattle.fed_outbox.specs.Transaction.{TransactionValue};
-ghost use Rattle.fed_outbox.specs.Outbox.{OutboxState, new_outbox, accepted, accepted_edus, expected, unanswered_pdus, unanswered_edus, is_unanswered, cut, failed, delay};
+ghost use Rattle.fed_outbox.specs.Outbox.{OutboxState, new_outbox, accepted, accepted_edus, expected, unanswered_pdus, unanswered_edus, is_unanswered, fits, cut, failed, delay};
+ghost use Rattle.fed_outbox.specs.Collecting.{Lane, collected};
+ghost use Rattle.fed_outbox.specs.Following.{Follows};
 ghost use Rattle.fed_outbox.specs.Together.{HoldsTogether};
 ghost use Rattle.fed_outbox.specs.Runs.{Call, Settle, after_call, after, accepted_by, accepted_parcels, events_of, edus_of, places_from, settles};
+
+use fed_journal::{places_count, what_an_entry_places, what_is_addressed_is_placed};
 
 /// What a parcel holds that an outbox accepts comes behind all that was accepted before, and the next number is one more; no other
 /// call changes what was accepted, or the next number.
@@ -71,3 +77,25 @@ pub fn delays_double_up_to_an_hour()
     ensures most { (failures : ℕ) → 13 ≤ failures → delay failures ≡ 3600000 }
     ensures counted { (o : OutboxState) (n now : ℕ) → o.failures ≡ 13 → (failed o n now).failures ≡ 13 }
 {}
+
+/// What is placed for a destination goes, in order and each parcel once, through the queue into the outbox: what was placed is at all times
+/// what the outbox has accepted, and then what the queue holds. So the first parcel of a queue always comes next, and what was addressed
+/// to the destination is what was accepted, and then what the queue holds.
+pub fn nothing_is_lost_on_the_way()
+    ensures new { (d : ℕ) → Follows d (parcels [] d) (record { queue = []; outbox = new_outbox d }) }
+    ensures entered { (d : ℕ) (entries : List Entry) (entry : Entry) (lane : Lane) → Follows d (parcels entries d) lane
+        → Follows d (parcels (entries ++ entry ∷ []) d) (record { queue = queue_after entries entry d lane.queue; outbox = lane.outbox }) }
+    ensures next { (d : ℕ) (entries : List Entry) (parcel : Parcel) (later : List Parcel) (o : OutboxState)
+        → Follows d (parcels entries d) (record { queue = parcel ∷ later; outbox = o }) → fits o parcel.place ≡ true }
+    ensures collected { (d : ℕ) (entries : List Entry) (lane : Lane) → Follows d (parcels entries d) lane → Follows d (parcels entries d) (collected lane) }
+    ensures others { (d : ℕ) (placed : List Parcel) (lane : Lane) (call : Call) → accepted_by lane.outbox call ≡ None → Follows d placed lane
+        → Follows d placed (record { queue = lane.queue; outbox = after_call lane.outbox call }) }
+    ensures events { (d : ℕ) (entries : List Entry) (lane : Lane) → Follows d (parcels entries d) lane
+        → addressed entries d ≡ accepted lane.outbox ++ events_of lane.queue }
+    ensures edus { (d : ℕ) (entries : List Entry) (lane : Lane) → Follows d (parcels entries d) lane
+        → addressed_edus entries d ≡ accepted_edus lane.outbox ++ edus_of lane.queue }
+{
+    what_an_entry_places();
+    what_is_addressed_is_placed();
+    places_count();
+}
