@@ -12,3 +12,4 @@ pub mod LookUps
 pub mod Origins
 pub mod Incomings
 pub mod Wholes
+pub mod Queues

@@ -18,3 +18,4 @@ pub mod LookUps
 pub mod SendPath
 pub mod WholeRequest
 pub mod IncomingParts
+pub mod Queues

@@ -1,14 +1,16 @@
 // What holds of all inboxes and all lists of requests.
-ghost use Rattle.std.specs.Prelude.{◌≡◌, ◌≢◌, ℕ, List, [], ◌∷◌, ◌++◌, Bool, true, Some, None, Result, Ok, length, IsUtf8, All, AllPairs, option_map, find};
+ghost use Rattle.std.specs.Prelude.{◌≡◌, ◌≢◌, ℕ, List, [], ◌∷◌, ◌++◌, Bool, true, Some, None, Result, Ok, ◌≤◌, length, IsUtf8, All, AllPairs, option_map, find, slice_get};
 ghost use Rattle.std.specs.FinMap as finite;
 ghost use Rattle.serde_json.specs.Data.{Data};
 ghost use Rattle.fed_event.specs.Names.{is_one_of};
 ghost use Rattle.fed_event.specs.EventId.{event_id_of};
 ghost use Rattle.fed_event.specs.Keys.{Checks};
+ghost use Rattle.fed_event.specs.Checked.{CheckedEvent};
 ghost use Rattle.fed_replies.specs.Kept.{KeptReplies};
 ghost use Rattle.fed_inbox.specs.Inbox.{InboxState, new_inbox, log_at, taken_of, taken_edus_of};
 ghost use Rattle.fed_inbox.specs.LookUps.{log_of_new, reply_of_new, has_id};
 ghost use Rattle.fed_inbox.specs.Taking.{verdict_on, verdicts_on};
+ghost use Rattle.fed_inbox.specs.Queues.{for_room, queues_with};
 ghost use Rattle.fed_inbox.specs.Answer.{Request, marked_answer, marked_after, marked_fresh};
 ghost use Rattle.base64.specs.GeneralPurpose.{IsBytes};
 ghost use Rattle.fed_http.specs.Message.{RequestValue};
@@ -135,4 +137,14 @@ pub fn signed_requests_pass<K: Keys>()
         → IsReadAs sent.destination (request_of sent key sign) (Ok (record { txn = txn; header = h })) }
     ensures signed { (keys : K) (sent : Sent) → sent.origin ≡ K.own_name keys → let h = header_of sent (K.own_key keys) (K.own_signature keys) in
         is_signed_by (K.checks keys) sent.destination (request_of sent (K.own_key keys) (K.own_signature keys)) h sent.content ≡ true }
+{}
+
+/// A request brings at most as many events for the rooms as a transaction may have, and the queue of each room gets those of the room, in
+/// their order, behind what it holds.
+pub fn what_the_queues_get()
+    ensures few { (checks : Checks) (inbox : InboxState) (request : Request) (found : Bool) → length (marked_fresh checks inbox request found) ≤ 50 }
+    ensures queue { (rooms : List (List ℕ)) (events : List CheckedEvent) (queues : List (List CheckedEvent)) (k : ℕ) (room : List ℕ) (queue : List CheckedEvent)
+        → slice_get rooms k ≡ Some room → slice_get queues k ≡ Some queue → slice_get (queues_with rooms events queues) k ≡ Some (queue ++ for_room room events) }
+    ensures count { (rooms : List (List ℕ)) (events : List CheckedEvent) (queues : List (List CheckedEvent))
+        → length (queues_with rooms events queues) ≡ length queues }
 {}

@@ -35,7 +35,7 @@ pub use laws::{
     a_200_is_kept, kept_replies_stay, one_reading, only_a_first_200_changes, origins_are_apart,
     repeats_get_the_kept_reply, signed_requests_pass, taken_grows, the_first_of_an_id_decides,
     what_a_new_inbox_knows, what_is_kept_was_answered, what_one_more_request_adds,
-    what_the_rooms_get,
+    what_the_queues_get, what_the_rooms_get,
 };
 pub use refusal::Refusal;
 pub use send_path::txn_of;
