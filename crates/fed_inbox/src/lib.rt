@@ -37,6 +37,7 @@ pub use laws::{
     what_a_new_inbox_knows, what_is_kept_was_answered, what_one_more_request_adds,
     what_the_queues_get, what_the_rooms_get,
 };
+pub use outcome::is_edu;
 pub use refusal::Refusal;
 pub use send_path::txn_of;
 pub use taken::Taken;

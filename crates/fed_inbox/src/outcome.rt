@@ -72,8 +72,8 @@ fn edu_texts(alloc: Global, elements: &Vec<Json>) -> Result<TextList, NoMemory>
     Ok(texts)
 }
 
-// Whether an element is an object with a text `edu_type` and an object `content`.
-fn is_edu(element: &Json) -> bool
+/// Whether a value is an ephemeral data unit (Server-Server API, "EDUs"): an object with a text `edu_type` and an object `content`.
+pub fn is_edu(element: &Json) -> bool
     ensures { result ≡ is_edu element.now }
 {
     let has_type = element
