@@ -1,0 +1,42 @@
+-- The way of a transaction and of its answer, in bytes (Matrix, Server-Server API, "PUT /_matrix/federation/v1/send/{txnId}").
+use Rattle.std.specs.Prelude.{◌≡◌, ℕ, List, ◌++◌, codes, decimal, take}
+use Rattle.fed_outbox.specs.Transaction.{TransactionValue}
+use Rattle.fed_txn.specs.Writing.{body_value}
+use Rattle.fed_http.specs.Message.{RequestValue, Answer}
+use Rattle.fed_http.specs.Signing.{Asked, request_of}
+use Rattle.fed_http.specs.Text.{IsText}
+use Rattle.fed_http.specs.Writing.{request_bytes, reply_bytes}
+use Rattle.fed_http.specs.declared.message.Kind.{Kind}
+use Rattle.fed_http.specs.declared.message.Kind.TheVariants.{Requests, Replies}
+use Rattle.fed_http.specs.declared.message.Message.{Message}
+use Rattle.fed_http.specs.declared.message.Message.TheVariants as message
+
+-- the target of the request for transaction n: its id is the epoch and n, with a hyphen between them
+abbrev pub target_of : ℕ → ℕ → List ℕ
+target_of epoch n = codes "/_matrix/federation/v1/send/" ++ (decimal epoch ++ (codes "-" ++ decimal n))
+
+-- what brings a transaction from the server `origin` to the server `dest`
+abbrev pub asked_of : List ℕ → List ℕ → ℕ → TransactionValue → Asked
+asked_of origin dest epoch t = record {
+  method = codes "PUT";
+  target = target_of epoch t.number;
+  origin = origin;
+  destination = dest;
+  content = body_value origin t;
+}
+
+-- the bytes of its request, signed by a key of this name
+abbrev pub bytes_sent : Asked → List ℕ → (List ℕ → List ℕ) → List ℕ
+bytes_sent asked key sign = request_bytes (request_of asked key sign)
+
+-- bytes begin with the text of a message
+abbrev pub BeginsWith : Kind → List ℕ → Message → Type 0
+BeginsWith kind bytes m = (used : ℕ) × IsText kind m (take used bytes)
+
+-- bytes begin with the text of a request
+abbrev pub IsRequestIn : List ℕ → RequestValue → Type 0
+IsRequestIn bytes request = BeginsWith Requests bytes (message.Request request)
+
+-- the bytes of a reply begin with the text of one that has this status
+abbrev pub IsStatusIn : Answer → ℕ → Type 0
+IsStatusIn reply status = (read : Answer) × (BeginsWith Replies (reply_bytes reply) (message.Reply read) × (read.status ≡ status))

@@ -1,0 +1,44 @@
+//! A world of servers that send each other events of rooms (Matrix, Server-Server API, "Transactions"), in which what is sent may be lost,
+//! come late or come again. All that goes from one server to another goes as the bytes of HTTP messages.
+//!
+//! - `setup`: `Setup`, what a world begins with
+//! - `setup_check`: whether a world can begin so
+//! - `step`, `outcome`: `Step` and `Outcome`, the steps of a world and what they answer
+//! - `link`: `Link`, the way of parcels from a journal to one destination
+//! - `hosted`: `Hosted`, a room at a server, and the events in front of it
+//! - `server`: `Server`, what a server keeps
+//! - `offering`: what a server sends
+//! - `receiving`: what a server takes
+//! - `messages`: from transactions to the bytes of requests, and from bytes to what they say
+//! - `packet`: `Packet`, what is on its way
+//! - `world`: `World`, and its steps
+//! - `rounds`: rounds in which nothing is lost
+//! - `running`: `run`, a world after a list of steps
+//! - `script`: `read_script`, the steps that a text names
+#![tactic(auto)]
+
+mod hosted;
+mod link;
+mod messages;
+mod offering;
+mod outcome;
+mod packet;
+mod receiving;
+mod rounds;
+mod running;
+mod script;
+mod server;
+mod setup;
+mod setup_check;
+mod step;
+mod world;
+
+pub use hosted::Hosted;
+pub use outcome::{Collected, EduRefusal, Outcome, SendRefusal};
+pub use packet::Packet;
+pub use rounds::calm;
+pub use running::run;
+pub use script::{ScriptError, ScriptFault, read_script};
+pub use setup::{RoomSetup, Setup, SimFault};
+pub use step::Step;
+pub use world::{MAX_MOMENT, World};

@@ -1,0 +1,112 @@
+// A world after a list of steps.
+use crate::hosted::Hosted;
+use crate::outcome::Outcome;
+use crate::server::{Server, keys_of};
+use crate::setup::{RoomSetup, Setup, SimFault};
+use crate::setup_check::{list_of, room_fault};
+use crate::step::Step;
+use crate::world::World;
+use fed_dest::{List, ServerIndex};
+use fed_event::StandIn;
+use fed_json::NoMemory;
+use fed_room::{Room, started};
+use std::alloc::Global;
+
+/// The world that begins with a setup, after these steps. A step that is refused stands as refused among the `replies`.
+///
+/// # Errors
+///
+/// `BadSetup` where no world begins with the setup; `Memory` where memory for its beginning ran out.
+pub fn run(alloc: Global, setup: &Setup, steps: &[Step]) -> Result<World, SimFault> {
+    let mut world = begin(alloc, setup)?;
+    let mut replies = Vec::with_capacity(alloc, steps.len())?;
+    for step in steps {
+        let outcome = match world.make(alloc, step) {
+            Ok(outcome) => outcome,
+            Err(NoMemory) => Outcome::NoMemory,
+        };
+        // There is room for it.
+        replies.push(outcome).unwrap();
+    }
+    world.replies = replies;
+    Ok(world)
+}
+
+// The world before any step.
+fn begin(alloc: Global, setup: &Setup) -> Result<World, SimFault> {
+    let list = list_of(alloc, &setup.servers)?;
+    check_rooms(&setup.rooms, &list)?;
+    let known = ids_of(alloc, &setup.rooms)?;
+    let servers = servers(alloc, &list, &known, &setup.rooms)?;
+    Ok(World {
+        list,
+        known,
+        epoch: setup.epoch,
+        servers,
+        packets: Vec::new(alloc),
+        now: 0,
+        replies: Vec::new(alloc),
+    })
+}
+
+// Whether all rooms can begin.
+fn check_rooms(rooms: &[RoomSetup], list: &List) -> Result<(), SimFault> {
+    for place in 0..rooms.len() {
+        if room_fault(&rooms[place], &rooms[..place], list).is_some() {
+            return Err(SimFault::BadSetup);
+        }
+    }
+    Ok(())
+}
+
+// The ids of the rooms.
+fn ids_of(alloc: Global, rooms: &[RoomSetup]) -> Result<Vec<String>, NoMemory> {
+    let mut ids = Vec::with_capacity(alloc, rooms.len())?;
+    for room in rooms {
+        ids.push(String::from_str(alloc, &room.id)?)?;
+    }
+    Ok(ids)
+}
+
+// A server of each name.
+fn servers(
+    alloc: Global,
+    list: &List,
+    known: &[String],
+    rooms: &[RoomSetup],
+) -> Result<Vec<Server>, SimFault> {
+    let keys = all_keys(alloc, list)?;
+    let count = list.len();
+    let mut servers = Vec::with_capacity(alloc, count)?;
+    for place in 0..count {
+        let own = ServerIndex::new(place);
+        let hosted = hosted_rooms(alloc, list.name(own), rooms, &keys)?;
+        servers.push(Server::new(alloc, own, list, known, hosted)?)?;
+    }
+    Ok(servers)
+}
+
+// The keys of all servers.
+fn all_keys(alloc: Global, list: &List) -> Result<Vec<StandIn>, NoMemory> {
+    let mut keys = Vec::with_capacity(alloc, list.len())?;
+    for name in list.names() {
+        keys.push(keys_of(alloc, name.as_str())?)?;
+    }
+    Ok(keys)
+}
+
+// The rooms as they begin at the server of this name.
+fn hosted_rooms(
+    alloc: Global,
+    own: &str,
+    rooms: &[RoomSetup],
+    keys: &[StandIn],
+) -> Result<Vec<Hosted>, SimFault> {
+    let mut hosted = Vec::with_capacity(alloc, rooms.len())?;
+    for room in rooms {
+        let events = started(alloc, &room.id, &room.users, keys)?;
+        let room = Room::start(alloc, own, events)?;
+        hosted.push(Hosted::new(alloc, room))?;
+    }
+    Ok(hosted)
+}

@@ -1,0 +1,91 @@
+// What a server keeps.
+ghost use Rattle.std.specs.Prelude.{◌≡◌, ◌<◌, IfOk, length};
+
+use crate::hosted::Hosted;
+use crate::link::Link;
+use fed_dest::{List, MAX_SERVERS, ServerIndex};
+use fed_event::StandIn;
+use fed_inbox::Inbox;
+use fed_journal::Journal;
+use fed_json::NoMemory;
+use fed_replies::ListStore;
+use std::alloc::Global;
+
+/// A server of a world: its rooms, in the order of the setup, its journal, the way to each destination, and its inbox.
+#[derive(Drop)]
+pub(crate) struct Server {
+    pub(crate) own: ServerIndex,
+    pub(crate) keys: StandIn,
+    pub(crate) rooms: Vec<Hosted>,
+    pub(crate) journal: Journal,
+    pub(crate) links: Vec<Link>,
+    pub(crate) inbox: Inbox<ListStore>,
+}
+
+impl Server {
+    /// A server that has sent and taken nothing, with these rooms.
+    pub(crate) fn new(
+        alloc: Global,
+        own: ServerIndex,
+        list: &List,
+        known: &[String],
+        rooms: Vec<Hosted>,
+    ) -> Result<Server, NoMemory>
+        requires { own < length list.now }
+    {
+        let name = list.names()[own.place()].copy(alloc)?;
+        let servers = list.copy(alloc)?;
+        let known = texts(alloc, known)?;
+        let inbox = Inbox::new(alloc, name, servers, known, ListStore::new(alloc))?;
+        Ok(Server {
+            own,
+            keys: keys_of(alloc, list.name(own))?,
+            rooms,
+            journal: Journal::new(alloc)?,
+            links: links(alloc, list.len())?,
+            inbox,
+        })
+    }
+
+    /// The way to a destination: to a listed server other than this one.
+    pub(crate) fn link(&self, dest: ServerIndex) -> Option<&Link> {
+        if dest == self.own {
+            return None;
+        }
+        self.links.get(dest.place())
+    }
+
+    /// The same, to change it.
+    pub(crate) fn link_mut(&mut self, dest: ServerIndex) -> Option<&mut Link> {
+        if dest == self.own {
+            return None;
+        }
+        self.links.get_mut(dest.place())
+    }
+}
+
+/// The keys of the server of this name.
+pub(crate) fn keys_of(alloc: Global, name: &str) -> Result<StandIn, NoMemory>
+    ensures { IfOk result (λ keys. keys ≡ name.now) }
+{
+    let own = String::from_str(alloc, name)?;
+    Ok(StandIn::new(own))
+}
+
+// The ways to so many servers.
+fn links(alloc: Global, count: usize) -> Result<Vec<Link>, NoMemory> {
+    let mut links = Vec::with_capacity(alloc, count)?;
+    for place in 0..count.min(MAX_SERVERS) {
+        links.push(Link::new(alloc, ServerIndex::new(place)))?;
+    }
+    Ok(links)
+}
+
+// Equal texts.
+fn texts(alloc: Global, texts: &[String]) -> Result<Vec<String>, NoMemory> {
+    let mut copies = Vec::with_capacity(alloc, texts.len())?;
+    for text in texts {
+        copies.push(String::from_str(alloc, text)?)?;
+    }
+    Ok(copies)
+}
