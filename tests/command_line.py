@@ -23,6 +23,63 @@ Every signature that decodes is trusted: this shows an inbox and gives no securi
     a.example 7-1 {"origin":"a.example","origin_server_ts":1,"pdus":[]}
 """
 
+SCRIPT = """\
+Standard input has a command a line, with one space between its words. A line that begins with # is skipped.
+For each command a line is printed. A wrong line is told by its number, and then nothing is run.
+
+First come the servers, then the rooms that stand on all of them, each with an id and its users:
+
+    servers <name>..
+    room <id> <user>..
+
+A user sends an event, or a server an ephemeral data unit. A key is - for none, or = and the state key:
+
+    send <server> <room> <sender> <type> <key> <content>
+    edu <server> <type> <servers with commas> <content>
+
+What is sent waits for each destination. It is collected into the outbox and cut into transactions. A transaction is posted as a packet,
+which may arrive once, again or never. What arrives is answered by another packet. Events that came wait to be applied to their room:
+
+    collect <server> <dest>
+    cut <server> <dest>
+    post <server> <dest>
+    arrive <packet>
+    answer <packet>
+    apply <server> <room>
+
+Sending may fail, time goes by, and an outbox may be closed:
+
+    failed <server> <dest>
+    tick <milliseconds>
+    close <server> <dest>
+
+In a round of calm all that waits is sent and applied, and nothing is lost. show tells how many events and ephemeral data units a server
+took from another one, and how many of them that one counts as delivered:
+
+    calm <rounds>
+    show <server> <origin>
+
+No signature here gives security. To try it, paste
+
+    servers a b
+    room !r:a @u:a @v:b
+    send a !r:a @u:a m.room.topic = {"topic":"x"}
+    collect a b
+    cut a b
+    post a b
+    failed a b
+    tick 1000
+    post a b
+    arrive 2
+    answer 3
+    show b a
+    apply b !r:a
+    send b !r:a @v:b m.x - {}
+    edu b m.x a {}
+    calm 1
+    show a b
+"""
+
 HELP = f"""\
 The federation inbox of a Matrix server; with no words, `inbox` with its defaults
 
@@ -30,6 +87,7 @@ Usage: fed [COMMAND]
 
 Commands:
   inbox  Answers lines of origin, transaction number and body
+  sim    Simulates servers that send each other events, by a script
   help   Print this message or the help of the given subcommand(s)
 
 Options:
@@ -50,6 +108,117 @@ Options:
   -h, --help           Print help
 
 {INPUT}"""
+
+SIM_HELP = f"""\
+Simulates servers that send each other events, by a script
+
+Usage: fed sim
+
+Options:
+  -h, --help  Print help
+
+{SCRIPT}"""
+
+# Commands, and what each of them prints. The first answer is lost, and the request comes again.
+RETRIED = [
+    ("servers a b", "ok"),
+    ("room !r:a @u:a @v:b", "ok"),
+    ("send a !r:a @u:a m.x - {}", "sent 1 to b"),
+    ("collect a b", "collected event"),
+    ("cut a b", "cut 1: 1 pdus 0 edus"),
+    ("post a b", "packet 1"),
+    ("arrive 1", "packet 2 status 200"),
+    ("failed a b", "due 1000"),
+    ("post a b", "not due until 1000"),
+    ("tick 1000", "now 1000"),
+    ("post a b", "packet 3"),
+    ("arrive 3", "packet 4 status 200"),
+    ("answer 4", "settled"),
+    ("answer 2", "ignored"),
+    ("show b a", "taken 1 0 acked 1 0"),
+    ("apply b !r:a", "accepted"),
+    ("apply b !r:a", "nothing"),
+]
+
+# All kinds of lines that the commands above don't print, but for those of rooms whose events come out of order.
+REFUSED = [
+    ("servers c b a", "ok"),
+    ("room !r:a @u:a @v:b @w:c", "ok"),
+    ("send a !q:a @u:a m.x - {}", "refused unknown room"),
+    ("send a !r:a @v:b m.x - {}", "refused not own user"),
+    ("send a !r:a @u:a m.x - 5", "refused bad draft"),
+    ("send b !r:a @v:b m.room.topic = {}", "refused rule 7"),
+    ("send b !r:a @v:b m.room.member =@w:c {\"membership\":\"join\"}", "refused rule 4.3.2"),
+    ("edu a m.x b 5", "refused bad edu"),
+    (f"edu a m.x b {{\"x\":\"{'x' * 65_536}\"}}", "refused edu too large"),
+    (f"edu a m.x b {'[' * 100}{']' * 100}", "refused bad edu"),
+    (f"edu a m.x b {{\"x\":{'[' * 99}{']' * 99}}}", "refused edu too deep"),
+    ("edu a m.x c,b,c {}", "edu to b,c"),
+    ("collect a b", "collected edu"),
+    ("close a b", "closed"),
+    ("close a b", "was closed"),
+    ("send a !r:a @u:a m.x - {}", "sent 1 to c"),
+    ("close a c", "closed"),
+    ("edu a m.x b,c {}", "edu to -"),
+    ("send a !r:a @u:a m.x - {}", "sent 2 to -"),
+    ("collect a b", "collected end"),
+    ("collect a b", "nothing"),
+    ("post a b", "nothing to post"),
+    ("failed a b", "ignored"),
+    ("cut a b", "cut 1: 0 pdus 1 edus"),
+    ("cut a b", "no cut"),
+    ("arrive 1", "no such request"),
+    ("answer 1", "no such answer"),
+    ("tick 9007199254740991", "now 9007199254740991"),
+    ("tick 1", "too late"),
+    ("calm 1", "calm now 9007199254740991"),
+]
+
+# A room two of whose events come to a server the other way round.
+TURNED = [
+    ("servers a b c", "ok"),
+    ("room !r:a @u:a @v:b @w:c", "ok"),
+    ("send a !r:a @u:a m.x - {}", "sent 1 to b,c"),
+    ("collect a c", "collected event"),
+    ("cut a c", "cut 1: 1 pdus 0 edus"),
+    ("post a c", "packet 1"),
+    ("arrive 1", "packet 2 status 200"),
+    ("apply c !r:a", "accepted"),
+    ("send c !r:a @w:c m.x - {}", "sent 1 to a,b"),
+    ("collect c b", "collected event"),
+    ("cut c b", "cut 1: 1 pdus 0 edus"),
+    ("post c b", "packet 3"),
+    ("arrive 3", "packet 4 status 200"),
+    ("apply b !r:a", "waiting"),
+    ("collect a b", "collected event"),
+    ("cut a b", "cut 1: 1 pdus 0 edus"),
+    ("post a b", "packet 5"),
+    ("arrive 5", "packet 6 status 200"),
+    ("apply b !r:a", "accepted and 1 more"),
+]
+
+# What a script begins with, and lines that are wrong behind it.
+BEGUN = "servers a b\nroom !r:a @u:a @v:b\n"
+WRONG_LINES = [
+    ("frob", "unknown command"),
+    (" tick 1", "unknown command"),
+    ("servers a", "wrong words"),
+    ("room !r:a @u:a", "wrong words"),
+    ("room !q:a @u:a @x:q", "unknown server"),
+    ("tick 1\nroom !q:a @u:a", "wrong words"),
+    ("tick", "wrong words"),
+    ("tick 1 ", "wrong words"),
+    ("tick 00000000000000001", "wrong words"),
+    ("tick +1", "wrong words"),
+    ("close q q", "wrong words"),
+    ("close a q", "unknown server"),
+    ("edu a m.x q,a x", "wrong words"),
+    ("edu a m.x b,q x", "unknown server"),
+    ("edu a m.x b x", "bad content"),
+    ("send q !r:a @u:a m.x k x", "wrong words"),
+    ("send q !r:a @u:a m.x - x", "unknown server"),
+    ("send a !r:a @u:a m.x - {\"x\":1.5}", "bad content"),
+]
 
 NOT_LISTED = '403 {"errcode":"M_FORBIDDEN","error":"server not listed"}\n'
 TAKEN = '200 {"pdus":{}}\n'
@@ -81,6 +250,18 @@ def two_rooms():
     return line.decode(), answer({r: {}, q: unknown}), answer({r: unknown, q: {}})
 
 
+def scripted(commands):
+    """The words, standard input, standard output, standard error and the status of a script."""
+    given, out = ("".join(f"{line}\n" for line in lines) for lines in zip(*commands))
+    return ["sim"], given, out, "", 0
+
+
+def wrong(line, what):
+    """The same of a script that has wrong lines behind its beginning, of which the last is told."""
+    told = BEGUN.count("\n") + line.count("\n") + 1
+    return ["sim"], f"{BEGUN}{line}\nfrob\n", "", f"fed: line {told}: {what}\n", 1
+
+
 def cases():
     """The words, standard input, standard output, standard error and the status."""
     sample, answers = (FED / "stdin").read_text(), (FED / "stdout").read_text()
@@ -92,10 +273,13 @@ def cases():
         (["help"], "", HELP, "", 0),
         (["inbox", "--help"], "", INBOX_HELP, "", 0),
         (["help", "inbox"], "", INBOX_HELP, "", 0),
+        (["sim", "--help"], "", SIM_HELP, "", 0),
+        (["help", "sim"], "", SIM_HELP, "", 0),
         (["--version"], "", "fed 0.1.0\n", "", 0),
         (["word"], "", "", refused("unrecognized subcommand 'word'", "Usage: fed [COMMAND]"), 2),
         (["--name", "c.example"], "", "", refused("unexpected argument '--name' found", "Usage: fed [COMMAND]"), 2),
         (["inbox", "word"], "", "", refused("unexpected argument 'word' found", "Usage: fed inbox [OPTIONS]"), 2),
+        (["sim", "word"], "", "", refused("unexpected argument 'word' found", "Usage: fed sim"), 2),
         (["inbox", "--name"], "", "", refused("a value is required for '--name <N>' but none was supplied"), 2),
         (["inbox", "--name", b"\xff"], "", "", "error: an argument is not UTF-8\n", 2),
         ([], "", "", "", 0),
@@ -117,6 +301,14 @@ def cases():
         ([], empty("x.example") * 100_000, NOT_LISTED * 100_000, "", 0),
         (["inbox"], rooms, with_r, "", 0),
         (["inbox", "--room", "!q:a.example"], rooms, with_q, "", 0),
+        scripted(RETRIED),
+        scripted(REFUSED),
+        scripted(TURNED),
+        (["sim"], "\n# a comment\nservers a b\n\ntick 5", "ok\nnow 5\n", "", 0),
+        (["sim"], "", "", "fed: line 1: wrong words\n", 1),
+        (["sim"], "\n# a comment\ntick 1\n", "", "fed: line 3: wrong words\n", 1),
+        (["sim"], "servers a a\n", "", "fed: line 1: wrong words\n", 1),
+        *(wrong(line, what) for line, what in WRONG_LINES),
     ]
 
 
@@ -131,15 +323,16 @@ def prints(program, words, given, out, err, status):
 
 def output_fails(program, words):
     """Standard output that takes nothing."""
-    with open("/dev/full", "wb") as full, open(FED / "stdin", "rb") as sample:
-        done = ends(program, words, stdin=sample, stdout=full)
+    given = b"servers a\n" if words == ["sim"] else (FED / "stdin").read_bytes()
+    with open("/dev/full", "wb") as full:
+        done = ends(program, words, input=given, stdout=full)
     return (done.stderr.decode(), done.returncode) == (FAILED, 1)
 
 
-def input_fails(program):
+def input_fails(program, words):
     """Standard input that can't be read, since it is a folder."""
     folder = os.open("/", os.O_RDONLY)
-    done = ends(program, [], stdin=folder, stdout=subprocess.PIPE)
+    done = ends(program, words, stdin=folder, stdout=subprocess.PIPE)
     os.close(folder)
     return (done.stdout, done.stderr.decode(), done.returncode) == (b"", FAILED, 1)
 
@@ -160,8 +353,9 @@ def answers_at_once(program):
 def main():
     program = pathlib.Path(sys.argv[1] if len(sys.argv) > 1 else FED / "out" / "fed").resolve()
     passed = [(f"fed {words}, given {given[:200]!r}", prints(program, words, given, *want)) for words, given, *want in cases()]
-    passed += [(f"fed {words} > /dev/full", output_fails(program, words)) for words in (["--help"], ["--version"], [])]
-    passed += [("fed < /", input_fails(program)), ("answers before the next line", answers_at_once(program))]
+    passed += [(f"fed {words} > /dev/full", output_fails(program, words)) for words in (["--help"], ["--version"], [], ["sim"])]
+    passed += [(f"fed {words} < /", input_fails(program, words)) for words in ([], ["sim"])]
+    passed += [("answers before the next line", answers_at_once(program))]
     failed = [name for name, good in passed if not good]
     for name in failed:
         print(f"failed: {name}")

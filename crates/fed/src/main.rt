@@ -1,11 +1,12 @@
-//! The program `fed`: the inbox of a Matrix server, over lines of transactions.
+//! The program `fed`: the inbox of a Matrix server, over lines of transactions, and servers that send each other events, by a script.
 #![tactic(auto)]
 
 use anyhow::Result;
 use clap::error::ErrorKind;
 use clap::{Arg, ArgMatches, Command};
-use fed_app::{InboxSetup, RunFault, SetupFault, inbox_run};
+use fed_app::{InboxSetup, RunFault, SetupFault, SimRunFault, inbox_run, sim_run};
 use std::alloc::{AllocError, AllocFailed, Global};
+use std::fmt::Display;
 use std::io;
 use std::process::ExitCode;
 
@@ -26,6 +27,64 @@ Every signature that decodes is trusted: this shows an inbox and gives no securi
     a.example 7-1 {\"origin\":\"a.example\",\"origin_server_ts\":1,\"pdus\":[]}
 ";
 
+// What a script has to hold.
+const SCRIPT: &str = "\
+Standard input has a command a line, with one space between its words. A line that begins with # is skipped.
+For each command a line is printed. A wrong line is told by its number, and then nothing is run.
+
+First come the servers, then the rooms that stand on all of them, each with an id and its users:
+
+    servers <name>..
+    room <id> <user>..
+
+A user sends an event, or a server an ephemeral data unit. A key is - for none, or = and the state key:
+
+    send <server> <room> <sender> <type> <key> <content>
+    edu <server> <type> <servers with commas> <content>
+
+What is sent waits for each destination. It is collected into the outbox and cut into transactions. A transaction is posted as a packet,
+which may arrive once, again or never. What arrives is answered by another packet. Events that came wait to be applied to their room:
+
+    collect <server> <dest>
+    cut <server> <dest>
+    post <server> <dest>
+    arrive <packet>
+    answer <packet>
+    apply <server> <room>
+
+Sending may fail, time goes by, and an outbox may be closed:
+
+    failed <server> <dest>
+    tick <milliseconds>
+    close <server> <dest>
+
+In a round of calm all that waits is sent and applied, and nothing is lost. show tells how many events and ephemeral data units a server
+took from another one, and how many of them that one counts as delivered:
+
+    calm <rounds>
+    show <server> <origin>
+
+No signature here gives security. To try it, paste
+
+    servers a b
+    room !r:a @u:a @v:b
+    send a !r:a @u:a m.room.topic = {\"topic\":\"x\"}
+    collect a b
+    cut a b
+    post a b
+    failed a b
+    tick 1000
+    post a b
+    arrive 2
+    answer 3
+    show b a
+    apply b !r:a
+    send b !r:a @v:b m.x - {}
+    edu b m.x a {}
+    calm 1
+    show a b
+";
+
 // Why there is nothing more to answer.
 #[derive(Drop)]
 enum Stop {
@@ -36,6 +95,8 @@ enum Stop {
     /// The servers that the words name make no list.
     BadServers,
     Fault(RunFault),
+    /// A script was not run.
+    NotRun(SimRunFault),
 }
 
 impl From<clap::Error> for Stop {
@@ -74,6 +135,12 @@ impl From<RunFault> for Stop {
     }
 }
 
+impl From<SimRunFault> for Stop {
+    fn from(fault: SimRunFault) -> Stop {
+        Stop::NotRun(fault)
+    }
+}
+
 fn main(rt: HostRuntime) -> Result<ExitCode> {
     match run(&rt) {
         Ok(()) => Ok(ExitCode::SUCCESS),
@@ -90,11 +157,12 @@ fn main(rt: HostRuntime) -> Result<ExitCode> {
             Ok(ExitCode::from(2))
         }
         Err(Stop::Fault(fault)) => end_by(&rt, fault),
+        Err(Stop::NotRun(fault)) => end_by(&rt, fault),
     }
 }
 
 // Tells a fault.
-fn end_by(rt: &HostRuntime, fault: RunFault) -> Result<ExitCode> {
+fn end_by(rt: &HostRuntime, fault: impl Display + Drop) -> Result<ExitCode> {
     eprintln!(rt; "fed: {fault}")?;
     Ok(ExitCode::from(1))
 }
@@ -103,9 +171,18 @@ fn run(rt: &HostRuntime) -> Result<(), Stop> {
     let alloc = rt.alloc();
     let words = words(rt)?;
     let matches = command(alloc)?.try_get_matches_from(words.as_slice())?;
+    if is_sim(&matches) {
+        sim_run(alloc, rt.stdin(), &mut rt.stdout())?;
+        return Ok(());
+    }
     let setup = setup_of(alloc, &matches)?;
     inbox_run(alloc, rt.stdin(), &mut rt.stdout(), setup)?;
     Ok(())
+}
+
+// Whether the words ask for a script to be run.
+fn is_sim(matches: &ArgMatches<'_>) -> bool {
+    matches.subcommand().is_some_and(|(name, _)| name == "sim")
 }
 
 // The words of the command line.
@@ -141,11 +218,15 @@ fn command<'a>(alloc: Global) -> Result<Command<'a>, AllocError> {
         .arg(name)?
         .arg(servers)?
         .arg(room)?;
+    let sim = Command::new(alloc, "sim")
+        .about("Simulates servers that send each other events, by a script")
+        .after_help(SCRIPT);
     Command::new(alloc, "fed")
         .about("The federation inbox of a Matrix server; with no words, `inbox` with its defaults")
         .after_help(INPUT)
         .version(VERSION)
-        .subcommand(inbox)
+        .subcommand(inbox)?
+        .subcommand(sim)
 }
 
 // The setup that the words ask for.

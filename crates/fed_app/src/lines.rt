@@ -103,9 +103,9 @@ fn append_line(out: &mut Vec<u8>, reply: &Reply) -> Result<(), NoMemory>
     Ok(())
 }
 
-// Writes all the bytes. Where a write fails, the writes before it wrote a front of them, which `write_all` doesn't say. A turn writes
-// a byte or is interrupted, and no writer is interrupted so often that the loop ends without an answer.
-fn write_whole<W: Write>(writer: &mut W, bytes: &[u8]) -> io::Result<()>
+/// Writes all the bytes. Where a write fails, the writes before it wrote a front of them, which `write_all` doesn't say. A turn writes
+/// a byte or is interrupted, and no writer is interrupted so often that the loop ends without an answer.
+pub(crate) fn write_whole<W: Write>(writer: &mut W, bytes: &[u8]) -> io::Result<()>
     ensures { WritesLine (W.contents writer.old) (W.contents writer.new) bytes.now result }
 {
     let mut rest = bytes;
