@@ -11,6 +11,7 @@ use fed_inbox::{Inbox, Reply};
 use fed_json::{Items, Json};
 use fed_replies::ListStore;
 use std::alloc::Global;
+use std::fmt::Display;
 
 /// What an inbox answers to the requests, and what it took.
 pub(crate) fn inbox(call: Arguments<'_>) -> Answer {
@@ -137,17 +138,24 @@ fn values(alloc: Global, events: &[Checked]) -> Answer {
     list.into_answer()
 }
 
+/// What the program prints for lines of transactions.
 pub(crate) fn run(call: Arguments<'_>) -> Answer {
     let alloc = call.alloc;
     let setup = setup(call)?;
     let input = call.bytes()?;
     let mut output = Vec::new(alloc);
-    let end = match inbox_run(alloc, input.as_slice(), &mut output, setup) {
+    let end = inbox_run(alloc, input.as_slice(), &mut output, setup);
+    ended(alloc, end, &output)
+}
+
+/// How a run ended, and what it wrote.
+pub(crate) fn ended<E: Display + Drop>(alloc: Global, end: Result<(), E>, output: &[u8]) -> Answer {
+    let end = match end {
         Ok(()) => String::from_str(alloc, "ok")?,
         Err(fault) => format!(in alloc; "{fault}")?,
     };
     Object::new(alloc)
         .with("end", Ok(Json::from(end)))
-        .with("output", text_of_bytes(alloc, &output))
+        .with("output", text_of_bytes(alloc, output))
         .into_answer()
 }

@@ -4,8 +4,8 @@ use crate::answer::{Answer, Stop};
 use crate::arguments::Arguments;
 use crate::made::Object;
 use crate::{
-    events, graphs, inboxes, journals, outboxes, requests, resolution, rooms, servers, signatures,
-    streams, table_rooms, transactions, values,
+    events, graphs, inboxes, journals, outboxes, requests, resolution, rooms, scripts, servers,
+    signatures, streams, table_rooms, transactions, values,
 };
 use fed_json::{Json, MAX_LEVELS, canonical, read_within};
 use std::alloc::Global;
@@ -102,6 +102,7 @@ fn answer_message_call(name: &str, call: Arguments<'_>) -> Answer {
         "write_request" => requests::written_request(call),
         "write_reply" => requests::written_reply(call),
         "resolution" => resolution::resolution(call),
+        "script" => scripts::script(call),
         _ => Err(Stop::wrong(String::from_str(call.alloc, "unknown call"))),
     }
 }

@@ -5,6 +5,7 @@
 //! - `values`, `events`, `signatures`, `transactions`, `inboxes`, `graphs`, `resolution`, `rooms`, `table_rooms`, `servers`, `journals`,
 //!   `outboxes`: the calls, floor by floor
 //! - `room_steps`: the operations on a room
+//! - `scripts`: scripts of a world
 //! - `offers`: the events and the EDUs that a call gives
 //! - `arguments`, `key_ring`: what a call is given
 //! - `verdicts`, `made`, `answer`: what a call gives
@@ -25,6 +26,7 @@ mod requests;
 mod resolution;
 mod room_steps;
 mod rooms;
+mod scripts;
 mod servers;
 mod signatures;
 mod streams;
