@@ -3,6 +3,10 @@ pub mod Link
 pub mod LinkParts
 pub mod Hosted
 pub mod HostedParts
+pub mod Server
+pub mod ServerParts
+pub mod Entering
+pub mod Offering
 pub mod Sending
 pub mod Taking
 pub mod Messages

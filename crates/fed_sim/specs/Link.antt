@@ -1,5 +1,5 @@
 -- The way of parcels from the journal of a server to one destination.
-use Rattle.std.specs.Prelude.{◌≡◌, ℕ, List, [], ◌++◌, ◌∷◌, refl, Option, Some, None, option_map, length, if◌then◌else◌}
+use Rattle.std.specs.Prelude.{◌≡◌, ℕ, List, [], ◌++◌, ◌∷◌, refl, Option, Some, None, option_map, length, map, if◌then◌else◌}
 use Rattle.std.specs.Coded.{Coded, code_by, coded×, coded_ℕ, coded_list, coded_option}
 use Rattle.serde_json.specs.Data.{Data}
 use Rattle.fed_json.specs.Code.{coded_data}
@@ -22,6 +22,10 @@ use Rattle.fed_sim.specs.declared.outcome.Collected.TheVariants as collected
 pub record LinkState : Type 0 where
   pub lane : Lane
   pub free : ℕ
+
+-- the queues and the outboxes of ways
+abbrev pub lanes_of : List LinkState → List Lane
+lanes_of links = map (λ (l : LinkState). l.lane) links
 
 abbrev pub new_lane : ℕ → Lane
 new_lane dest = record { queue = []; outbox = new_outbox dest }

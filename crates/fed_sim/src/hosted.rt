@@ -1,5 +1,5 @@
 // A room at a server, and the events in front of it.
-ghost use Rattle.std.specs.Prelude.{◌≡◌, ◌⊎◌, ◌≤◌, ◌<◌, ◌+◌, ◌∷◌, ◌++◌, [], Ok, None, OnOk, OnErr, IfOk, IfSome, IfNone, length};
+ghost use Rattle.std.specs.Prelude.{◌≡◌, ◌⊎◌, ◌≤◌, ◌<◌, ◌+◌, ◌∷◌, ◌++◌, [], Ok, Err, None, OnOk, OnErr, IfOk, IfSome, IfNone, length};
 
 use fed_event::{Checked, Keys};
 use fed_json::NoMemory;
@@ -33,6 +33,8 @@ impl Model for Hosted {
 impl Hosted {
     ghost use Rattle.fed_room.specs.Room.{room_of, room_rules, IsPrepared};
     ghost use Rattle.fed_room_contract.specs.Applying.{IsApplied, IsStopped};
+    ghost use Rattle.fed_room_contract.specs.Prepared.{signer_of, prepared_of};
+    ghost use Rattle.fed_room_contract.specs.declared.refusal.Refusal.TheVariants.{Memory};
     ghost use Rattle.fed_room_contract.specs.Room.{committed};
     ghost use Rattle.fed_sim.specs.Hosted.{IsSame, IsGiven};
 
@@ -88,6 +90,8 @@ impl Hosted {
         draft: Draft,
         keys: &K,
     ) -> Result<Prepared, Refusal>
+        ensures told { let signer = signer_of (K.own_name keys.now) (K.own_key keys.now) (K.own_signature keys.now) (K.checks keys.now) in
+            (result ≡ prepared_of room_rules signer (room_of self.old.room).stored draft) ⊎ (result ≡ Err Memory) }
         ensures prepared { IfOk result (λ p. IsPrepared self.new.room p) }
         ensures stays { room_of self.new.room ≡ room_of self.old.room }
         ensures queue { self.new.queue ≡ self.old.queue }

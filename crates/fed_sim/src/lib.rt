@@ -7,6 +7,8 @@
 //! - `link`: `Link`, the way of parcels from a journal to one destination
 //! - `hosted`: `Hosted`, a room at a server, and the events in front of it
 //! - `server`: `Server`, what a server keeps
+//! - `offered`: `Offered`, an event or an ephemeral data unit that a server offers
+//! - `entering`: what is offered gets into a journal, and on its way
 //! - `offering`: what a server sends
 //! - `receiving`: what a server takes
 //! - `messages`: from transactions to the bytes of requests, and from bytes to what they say
@@ -17,9 +19,11 @@
 //! - `script`: `read_script`, the steps that a text names
 #![tactic(auto)]
 
+mod entering;
 mod hosted;
 mod link;
 mod messages;
+mod offered;
 mod offering;
 mod outcome;
 mod packet;

@@ -1,17 +1,26 @@
 // What a server sends.
-ghost use Rattle.std.specs.Prelude.{◌≡◌, ◌<◌, OnOk, IfOk, true, length};
-ghost use Rattle.fed_sim.specs.Sending.{HasRoom};
+ghost use Rattle.std.specs.Prelude.{◌≡◌, ◌≢◌, ◌<◌, ℕ, Ok, Err, OnErr, IfOk, IfErr, IsErr, map, string_bytes, length};
+ghost use Rattle.fed_room_contract.specs.declared.refusal.Refusal.TheVariants.{Memory};
+ghost use Rattle.fed_room_contract.specs.Prepared.{prepared_of};
+ghost use Rattle.fed_room.specs.Room.{room_of, room_rules, IsPrepared};
+ghost use Rattle.fed_dest.specs.ServerSet.{is_among};
+ghost use Rattle.fed_dest.specs.Joined.{is_destination};
+ghost use Rattle.fed_sim.specs.declared.outcome.Outcome.TheVariants.{NotSent};
+ghost use Rattle.fed_sim.specs.declared.outcome.SendRefusal.TheVariants.{NotMade};
+ghost use Rattle.fed_sim.specs.Offering.{IsOffered, IsOfferedAt, IsEduOffered, IsClosedFor, signer_named, others_among, edu_refusal};
 
-use crate::link::Link;
+use crate::entering::{Entered, enter};
+use crate::hosted::Hosted;
+use crate::offered::Offered;
 use crate::outcome::{EduRefusal, Outcome, SendRefusal};
 use crate::receiving::place_of;
 use crate::server::Server;
 use fed_dest::{List, ServerIndex, ServerSet, destinations};
-use fed_event::Checked;
+use fed_event::{Checked, StandIn};
 use fed_inbox::is_edu;
-use fed_journal::{Cause, Journal, JournalFault, Load, Parcel};
+use fed_journal::{Cause, JournalFault, Load, Parcel};
 use fed_json::{Json, NoMemory, canonical};
-use fed_room_contract::{Draft, Refusal, RoomEngine};
+use fed_room_contract::{Draft, Prepared, Refusal, RoomEngine};
 use std::alloc::Global;
 
 /// The most bytes of the canonical text of an ephemeral data unit that is sent.
@@ -21,6 +30,8 @@ const MAX_EDU: usize = 65_536;
 const MAX_EDU_DEPTH: usize = 100;
 
 impl Server {
+    ghost use Rattle.fed_sim.specs.ServerParts.{server_of};
+
     /// A user sends an event of a known room: it goes to the servers that are joined in the state before it, as far as their outboxes
     /// are open, into the journal and into the room. Nothing changes where it is refused or memory runs out.
     pub(crate) fn offer(
@@ -29,36 +40,44 @@ impl Server {
         list: &List,
         known: &[String],
         draft: Draft,
-    ) -> Result<Outcome, NoMemory> {
-        let Some(place) = place_of(known, &draft.room) else {
+    ) -> Result<Outcome, NoMemory>
+        ensures offered { IfOk result (λ outcome. IsOffered list.now (map string_bytes known.now) draft (server_of self.old) outcome (server_of self.new)) }
+        ensures err { OnErr result (server_of self.new ≡ server_of self.old) }
+    {
+        let place = place_of(known, &draft.room).unwrap_or(self.rooms.len());
+        if self.rooms.len() <= place {
             return Ok(Outcome::NotSent(SendRefusal::UnknownRoom));
+        }
+        self.offer_at(alloc, list, place, draft)
+    }
+
+    // The same, in the room at this place.
+    fn offer_at(
+        &mut self,
+        alloc: Global,
+        list: &List,
+        place: usize,
+        draft: Draft,
+    ) -> Result<Outcome, NoMemory>
+        requires { place < length self.old.rooms.items }
+        ensures offered { IfOk result (λ outcome. IsOfferedAt list.now place draft (server_of self.old) outcome (server_of self.new)) }
+        ensures err { OnErr result (server_of self.new ≡ server_of self.old) }
+    {
+        let hosted = &mut self.rooms[place];
+        let outgoing = match outgoing_of(alloc, hosted, &self.keys, self.own, list, draft) {
+            Ok(outgoing) => outgoing,
+            Err(refusal) => return not_made(refusal),
         };
-        let Some(hosted) = self.rooms.get_mut(place) else {
-            return Ok(Outcome::NotSent(SendRefusal::UnknownRoom));
-        };
-        let prepared = match hosted.prepare(alloc, draft, &self.keys) {
-            Ok(prepared) => prepared,
-            Err(Refusal::Memory) => return Err(NoMemory),
-            Err(refusal) => return Ok(Outcome::NotSent(SendRefusal::NotMade(refusal))),
-        };
-        let event = prepared.event().copy(alloc)?;
-        let graph = hosted.room().graph();
-        let dests = destinations(alloc, graph, prepared.state_before(), self.own, list)?;
-        let open = open_among(alloc, &self.journal, &dests)?;
-        match enter(
-            alloc,
-            &mut self.journal,
-            &mut self.links,
+        let Outgoing {
+            prepared,
             event,
             dests,
-            &open,
-        )? {
-            Some(number) => {
+        } = outgoing;
+        let offered = Offered::Event(event);
+        match enter(alloc, &mut self.journal, &mut self.links, offered, dests)? {
+            Some(Entered { number, dests }) => {
                 hosted.commit(prepared);
-                Ok(Outcome::Sent {
-                    number,
-                    dests: open,
-                })
+                Ok(Outcome::Sent { number, dests })
             }
             None => Ok(Outcome::NotSent(SendRefusal::Limit)),
         }
@@ -71,27 +90,32 @@ impl Server {
         alloc: Global,
         edu: &Json,
         dests: &ServerSet,
-    ) -> Result<Outcome, NoMemory> {
+    ) -> Result<Outcome, NoMemory>
+        ensures offered { IfOk result (λ outcome. IsEduOffered edu.now dests.now (server_of self.old) outcome (server_of self.new)) }
+        ensures err { OnErr result (server_of self.new ≡ server_of self.old) }
+    {
         if let Some(refusal) = edu_fault(alloc, edu)? {
             return Ok(Outcome::EduNotSent(refusal));
         }
         let dests = others_among(alloc, dests, self.own, self.links.len())?;
-        let open = open_among(alloc, &self.journal, &dests)?;
-        let edu = edu.copy()?;
-        match enter_edu(alloc, &mut self.journal, &mut self.links, edu, dests, &open)? {
-            Some(_) => Ok(Outcome::EduSent { dests: open }),
+        let offered = Offered::Edu(edu.copy()?);
+        match enter(alloc, &mut self.journal, &mut self.links, offered, dests)? {
+            Some(Entered { dests, .. }) => Ok(Outcome::EduSent { dests }),
             None => Ok(Outcome::EduNotSent(EduRefusal::Limit)),
         }
     }
 
     /// Closes the outbox for a destination, and says whether it was open. Nothing changes where it was not or memory runs out.
-    pub(crate) fn close(&mut self, dest: ServerIndex) -> Result<Outcome, NoMemory> {
+    pub(crate) fn close(&mut self, dest: ServerIndex) -> Result<Outcome, NoMemory>
+        ensures closed { IfOk result (λ outcome. IsClosedFor dest (server_of self.old) outcome (server_of self.new)) }
+        ensures err { OnErr result (server_of self.new ≡ server_of self.old) }
+    {
         if dest == self.own {
             return Ok(Outcome::NoSuchServer);
         }
-        let Some(link) = self.links.get_mut(dest.place()) else {
+        if self.links.len() <= dest.place() {
             return Ok(Outcome::NoSuchServer);
-        };
+        }
         let Some(place) = self.journal.place(dest) else {
             return Ok(Outcome::WasClosed);
         };
@@ -100,6 +124,7 @@ impl Server {
             Err(JournalFault::Memory) => return Err(NoMemory),
             Err(JournalFault::Limit) => return Ok(Outcome::NotClosed),
         }
+        let link = &mut self.links[dest.place()];
         link.make_room(1)?;
         let load = Load::End;
         link.push(Parcel { place, load });
@@ -108,45 +133,60 @@ impl Server {
     }
 }
 
-// Enters an event in the journal, with its destinations, and puts a parcel on the way to each of those that are open: its number, and none
-// where the journal has no place for it. An error leaves all as it was.
-fn enter(
-    alloc: Global,
-    journal: &mut Journal,
-    links: &mut [Link],
+// What a server is about to send: the event that a room has made, an equal one for the journal, and the servers that it goes to.
+#[derive(Drop)]
+struct Outgoing {
+    prepared: Prepared,
     event: Checked,
     dests: ServerSet,
-    open: &ServerSet,
-) -> Result<Option<u64>, NoMemory> {
-    let parcels = event_parcels(alloc, journal, open, &event)?;
-    if !reserve(journal, links, parcels.len())? {
-        return Ok(None);
-    }
-    let number = journal.append(event, dests);
-    push_all(links, parcels);
-    Ok(Some(number))
 }
 
-// The same for an ephemeral data unit.
-fn enter_edu(
+// What a server sends for a draft. Nothing is changed that can be seen.
+fn outgoing_of(
     alloc: Global,
-    journal: &mut Journal,
-    links: &mut [Link],
-    edu: Json,
-    dests: ServerSet,
-    open: &ServerSet,
-) -> Result<Option<u64>, NoMemory> {
-    let parcels = edu_parcels(alloc, journal, open, &edu)?;
-    if !reserve(journal, links, parcels.len())? {
-        return Ok(None);
+    hosted: &mut Hosted,
+    keys: &StandIn,
+    own: ServerIndex,
+    list: &List,
+    draft: Draft,
+) -> Result<Outgoing, Refusal>
+    ensures made { IfOk result (λ o. prepared_of room_rules (signer_named keys.now) (room_of hosted.old.room).stored draft ≡ Ok o.prepared) }
+    ensures event { IfOk result (λ o. o.event ≡ o.prepared.event) }
+    ensures dests { IfOk result (λ o. (d : ℕ) → is_among o.dests d ≡ is_destination (room_of hosted.old.room).stored o.prepared.before list.now own d) }
+    ensures ready { IfOk result (λ o. IsPrepared hosted.new.room o.prepared) }
+    ensures refused { IfErr result (λ r. r ≢ Memory → prepared_of room_rules (signer_named keys.now) (room_of hosted.old.room).stored draft ≡ Err r) }
+    ensures room { room_of hosted.new.room ≡ room_of hosted.old.room }
+    ensures queue { hosted.new.queue ≡ hosted.old.queue }
+{
+    let prepared = hosted.prepare(alloc, draft, keys)?;
+    let event = prepared.event().copy(alloc)?;
+    let graph = hosted.room().graph();
+    let dests = destinations(alloc, graph, prepared.state_before(), own, list)?;
+    Ok(Outgoing {
+        prepared,
+        event,
+        dests,
+    })
+}
+
+// What a draft of which no event is made comes to.
+fn not_made(refusal: Refusal) -> Result<Outcome, NoMemory>
+    ensures told { IfOk result (λ told. told ≡ NotSent (NotMade refusal)) }
+    ensures others { IfOk result (λ _. refusal ≢ Memory) }
+    ensures memory { IsErr result → refusal ≡ Memory }
+{
+    match refusal {
+        Refusal::Memory => Err(NoMemory),
+        Refusal::NotOwnUser | Refusal::BadDraft(_) | Refusal::NotAllowed(_) => {
+            Ok(Outcome::NotSent(SendRefusal::NotMade(refusal)))
+        }
     }
-    let number = journal.append_edu(edu, dests);
-    push_all(links, parcels);
-    Ok(Some(number))
 }
 
 // Why a value is not sent as an ephemeral data unit.
-fn edu_fault(alloc: Global, edu: &Json) -> Result<Option<EduRefusal>, NoMemory> {
+fn edu_fault(alloc: Global, edu: &Json) -> Result<Option<EduRefusal>, NoMemory>
+    ensures { IfOk result (λ fault. fault ≡ edu_refusal edu.now) }
+{
     if !is_edu(edu) {
         return Ok(Some(EduRefusal::BadEdu));
     }
@@ -165,88 +205,10 @@ fn others_among(
     servers: &ServerSet,
     own: ServerIndex,
     count: usize,
-) -> Result<ServerSet, NoMemory> {
+) -> Result<ServerSet, NoMemory>
+    ensures { IfOk result (λ others. others ≡ others_among own count servers.now) }
+{
     let mut others = servers.copy(alloc)?.into_vec();
     others.retain(|server| *server != own && server.place() < count);
     Ok(ServerSet::of(others))
-}
-
-// Those of the servers whose outboxes are open.
-fn open_among(alloc: Global, journal: &Journal, dests: &ServerSet) -> Result<ServerSet, NoMemory> {
-    let mut open = dests.copy(alloc)?.into_vec();
-    open.retain(|dest| journal.place(*dest).is_some());
-    Ok(ServerSet::of(open))
-}
-
-// A parcel with the event for each of the servers.
-fn event_parcels(
-    alloc: Global,
-    journal: &Journal,
-    dests: &ServerSet,
-    event: &Checked,
-) -> Result<Vec<Parcel>, NoMemory> {
-    let mut parcels = Vec::with_capacity(alloc, dests.len())?;
-    for dest in dests.as_slice() {
-        if let Some(place) = journal.place(*dest) {
-            let load = Load::Event(event.copy(alloc)?);
-            parcels.push(Parcel { place, load })?;
-        }
-    }
-    Ok(parcels)
-}
-
-// A parcel with the ephemeral data unit for each of the servers.
-fn edu_parcels(
-    alloc: Global,
-    journal: &Journal,
-    dests: &ServerSet,
-    edu: &Json,
-) -> Result<Vec<Parcel>, NoMemory> {
-    let mut parcels = Vec::with_capacity(alloc, dests.len())?;
-    for dest in dests.as_slice() {
-        if let Some(place) = journal.place(*dest) {
-            let load = Load::Edu(edu.copy()?);
-            parcels.push(Parcel { place, load })?;
-        }
-    }
-    Ok(parcels)
-}
-
-// Makes room in the journal for an entry and for as many closings as it places parcels, and on each way for these. False where the
-// journal has no place for them.
-fn reserve(journal: &mut Journal, links: &mut [Link], parcels: usize) -> Result<bool, NoMemory>
-    ensures reserved { IfOk result (λ fits. fits ≡ true → 0 < journal.new.reserved) }
-    ensures room { IfOk result (λ fits. fits ≡ true → HasRoom parcels links.new) }
-    ensures count { length links.new ≡ length links.old }
-{
-    match journal.reserve((parcels as u64).saturating_add(1)) {
-        Ok(()) => {}
-        Err(JournalFault::Memory) => return Err(NoMemory),
-        Err(JournalFault::Limit) => return Ok(false),
-    }
-    make_room(links, parcels)?;
-    Ok(true)
-}
-
-// Makes room for so many more parcels on each way.
-fn make_room(links: &mut [Link], more: usize) -> Result<(), NoMemory>
-    ensures ok { OnOk result (HasRoom more links.new) }
-    ensures count { length links.new ≡ length links.old }
-{
-    for link in links.iter_mut() {
-        link.make_room(more)?;
-    }
-    Ok(())
-}
-
-// Each parcel waits on the way to its destination.
-fn push_all(links: &mut [Link], parcels: Vec<Parcel>)
-    requires { HasRoom (length parcels.items) links.old }
-{
-    for parcel in parcels {
-        let place = parcel.place.dest().place();
-        if place < links.len() {
-            links[place].push(parcel);
-        }
-    }
 }

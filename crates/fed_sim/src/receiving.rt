@@ -1,6 +1,7 @@
 // What a server takes.
-ghost use Rattle.std.specs.Prelude.{◌≡◌, OnOk, length};
-ghost use Rattle.fed_sim.specs.Taking.{HasRoom};
+ghost use Rattle.std.specs.Prelude.{◌≡◌, OnOk, OnErr, IfOk, length, map, position, bytes_eq, string_bytes};
+ghost use Rattle.fed_sim.specs.Hosted.{rooms_of, arrivals_of};
+ghost use Rattle.fed_sim.specs.Taking.{HasRoom, IsReceived, arrivals_from};
 
 use crate::hosted::Hosted;
 use crate::server::Server;
@@ -12,6 +13,8 @@ use fed_outbox::MAX_PDUS;
 use std::alloc::Global;
 
 impl Server {
+    ghost use Rattle.fed_sim.specs.ServerParts.{server_of};
+
     /// A request reaches the server: the reply of its inbox. What the inbox has taken for the rooms then waits in front of them. Nothing
     /// changes where memory for that runs out.
     pub(crate) fn receive(
@@ -19,7 +22,10 @@ impl Server {
         alloc: Global,
         known: &[String],
         request: &Request,
-    ) -> Result<Reply, NoMemory> {
+    ) -> Result<Reply, NoMemory>
+        ensures received { IfOk result (λ reply. IsReceived (map string_bytes known.now) request.now (server_of self.old) reply (server_of self.new)) }
+        ensures err { OnErr result (server_of self.new ≡ server_of self.old) }
+    {
         make_room(&mut self.rooms)?;
         let reply = self.inbox.answer(alloc, request, &self.keys);
         let events = self.inbox.fresh();
@@ -30,13 +36,17 @@ impl Server {
 }
 
 /// The place of a room among these.
-pub(crate) fn place_of(known: &[String], room: &str) -> Option<usize> {
+pub(crate) fn place_of(known: &[String], room: &str) -> Option<usize>
+    ensures { result ≡ position (λ id. bytes_eq (string_bytes id) room.now) known.now }
+{
     known.iter().position(|id| id.as_str() == room)
 }
 
 // Makes room for the events of one transaction in front of each room.
 fn make_room(rooms: &mut [Hosted]) -> Result<(), NoMemory>
     ensures ok { OnOk result (HasRoom 50 rooms.new) }
+    ensures rooms { rooms_of rooms.new ≡ rooms_of rooms.old }
+    ensures arrivals { arrivals_of rooms.new ≡ arrivals_of rooms.old }
     ensures count { length rooms.new ≡ length rooms.old }
 {
     for hosted in rooms.iter_mut() {
@@ -48,12 +58,17 @@ fn make_room(rooms: &mut [Hosted]) -> Result<(), NoMemory>
 // Each event waits in front of its room.
 fn push_all(rooms: &mut [Hosted], known: &[String], events: Vec<Checked>)
     requires { HasRoom (length events.items) rooms.old }
+    ensures rooms { rooms_of rooms.new ≡ rooms_of rooms.old }
+    ensures arrivals { arrivals_of rooms.new ≡ arrivals_from 0 (map string_bytes known.now) events.items (arrivals_of rooms.old) }
+    ensures count { length rooms.new ≡ length rooms.old }
 {
     for event in events {
-        if let Some(place) = place_of(known, event.event().room_id())
-            && place < rooms.len()
-        {
+        let place = place_of(known, event.event().room_id()).unwrap_or(rooms.len());
+        if place < rooms.len() {
             rooms[place].push(event);
+        } else {
+            // It is of no room here.
+            drop(event);
         }
     }
 }

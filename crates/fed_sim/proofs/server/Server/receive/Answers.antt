@@ -1,6 +1,13 @@
-use Rattle.std.proofs.Common.{arith, ◌≡◌, ◌∙◌, length, sym, ap}
+use Rattle.std.proofs.Common.{arith, ◌≡◌, ◌∙◌, length, map, string_bytes, sym, ap, subst}
 use Rattle.std.specs.List.{slice_get}
 use Rattle.std.proofs.lemmas.List.{with_items_is}
+use Rattle.std.specs.Vec.{with_items}
+use Rattle.fed_keys.specs.StandIn.{stand_in_checks}
+use Rattle.fed_inbox.specs.Inbox.{InboxState}
+use Rattle.fed_inbox.specs.WholeRequest.{IsAnsweredWhole}
+use Rattle.fed_sim.specs.Hosted.{rooms_of, arrivals_of}
+use Rattle.fed_sim.specs.Taking.{arrivals_from}
+use Rattle.fed_sim.specs.ServerParts.{server_of}
 use Rattle.fed_sim.proofs.Fresh.{few_fresh}
 use Rattle.fed_sim.proofs.server.Server.receive.Goals as goal
 
@@ -14,3 +21,26 @@ push_all-requires c = λ k room here.
     let few = few_fresh c.what_the_queues_get.ensures.few _ _ _ _ _ _ c.answer-reply.ensures.answered in
     let handed = ap length c.fresh-events.ensures.handed in
     omega arith
+
+pub returns-clause-received : goal.returns-clause-received
+returns-clause-received c =
+    let old = server_of c.args.self.now in
+    let known = map string_bytes c.args.known.now in
+    let fresh = c.answer-reply.new.self.fresh in
+    let made = with_items c.args.self.now.rooms c.make_room.new.rooms in
+    let size = c.args.self.now.rooms.ok.0 in
+    let held = ap length c.deref_mut.ensures.value in
+    let first : made.items ≡ c.make_room.new.rooms = with_items_is c.args.self.now.rooms c.make_room.new.rooms (omega (arith, size, held, c.in_ok-make_room.ensures.count)) in
+    let second : (with_items made c.push_all.new.rooms).items ≡ c.push_all.new.rooms =
+    with_items_is made c.push_all.new.rooms (omega (arith, size, held, c.in_ok-make_room.ensures.count, c.push_all.ensures.count, ap length c.deref_mut-2.ensures.value, ap length first)) in
+    let between : c.deref_mut-2.result.now ≡ c.make_room.new.rooms = c.deref_mut-2.ensures.value ∙ first in
+    let rooms : rooms_of (with_items made c.push_all.new.rooms).items ≡ old.rooms =
+    ap rooms_of second ∙ c.push_all.ensures.rooms ∙ ap rooms_of between ∙ c.in_ok-make_room.ensures.rooms ∙ ap rooms_of c.deref_mut.ensures.value in
+    let queues : arrivals_of c.deref_mut-2.result.now ≡ old.arrivals = ap arrivals_of between ∙ c.in_ok-make_room.ensures.arrivals ∙ ap arrivals_of c.deref_mut.ensures.value in
+    let arrivals : arrivals_of (with_items made c.push_all.new.rooms).items ≡ arrivals_from 0 known fresh old.arrivals =
+    ap arrivals_of second ∙ c.push_all.ensures.arrivals ∙ (λ i. arrivals_from 0 known (c.fresh-events.ensures.handed i) (queues i)) in
+    record {
+      fresh = fresh;
+      answered = subst (λ (s : InboxState). IsAnsweredWhole stand_in_checks old.inbox c.args.request.now c.answer-reply.result s fresh) (sym c.fresh-events.ensures.stays) c.answer-reply.ensures.answered;
+      others = λ i. record { own = old.own; name = old.name; rooms = rooms i; arrivals = arrivals i; journal = old.journal; lanes = old.lanes; inbox = c.fresh-events.new.self.state };
+    }

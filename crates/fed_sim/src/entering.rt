@@ -1,0 +1,128 @@
+// An entry gets into the journal of a server, and the parcels that it places on their ways.
+ghost use Rattle.std.specs.Prelude.{◌≡◌, ◌<◌, OnOk, OnErr, IfOk, true, length};
+ghost use Rattle.std.specs.List.{filter_map};
+ghost use Rattle.std.specs.List.Sorted.{IsStrictlyIncreasing};
+ghost use Rattle.fed_sim.specs.Link.{lanes_of};
+ghost use Rattle.fed_sim.specs.Entering.{load_of, open_among, has_place};
+ghost use Rattle.fed_sim.specs.Sending.{HasRoom, parcel_to, pushed_from, entered_told, entries_after, lanes_after};
+
+use crate::link::Link;
+use crate::offered::Offered;
+use fed_dest::ServerSet;
+use fed_journal::{Journal, JournalFault, Parcel};
+use fed_json::NoMemory;
+use std::alloc::Global;
+
+/// What was entered: its number, among the events or among the EDUs of the journal, and the destinations whose outboxes it reaches.
+#[derive(Drop)]
+pub(crate) struct Entered {
+    pub(crate) number: u64,
+    pub(crate) dests: ServerSet,
+}
+
+/// Enters what is offered in the journal, with its destinations, and puts a parcel on the way to each of those whose outbox is open. `None`
+/// where the journal has no place for it; then, and where memory runs out, nothing has changed.
+pub(crate) fn enter(
+    alloc: Global,
+    journal: &mut Journal,
+    links: &mut [Link],
+    offered: Offered,
+    dests: ServerSet,
+) -> Result<Option<Entered>, NoMemory>
+    ensures told { IfOk result (λ told. told ≡ entered_told offered dests journal.old.entries) }
+    ensures rising { OnOk result (IsStrictlyIncreasing dests) }
+    ensures entries { OnOk result (journal.new.entries ≡ entries_after offered dests journal.old.entries) }
+    ensures lanes { OnOk result (lanes_of links.new ≡ lanes_after offered dests journal.old.entries (lanes_of links.old)) }
+    ensures err { OnErr result (journal.new.entries ≡ journal.old.entries) }
+    ensures err_lanes { OnErr result (lanes_of links.new ≡ lanes_of links.old) }
+    ensures count { length links.new ≡ length links.old }
+{
+    let reached = open_among(alloc, journal, &dests)?;
+    let parcels = parcels_to(alloc, journal, &dests, &offered)?;
+    if !reserve(journal, links, parcels.len())? {
+        return Ok(None);
+    }
+    let number = offered.append_to(journal, dests);
+    push_all(links, parcels);
+    Ok(Some(Entered {
+        number,
+        dests: reached,
+    }))
+}
+
+// Those of the servers whose outboxes are open.
+fn open_among(alloc: Global, journal: &Journal, dests: &ServerSet) -> Result<ServerSet, NoMemory>
+    ensures { IfOk result (λ others. others ≡ open_among journal.now.entries dests.now) }
+{
+    let mut open = dests.copy(alloc)?.into_vec();
+    open.retain(|dest| journal.place(*dest).is_some());
+    Ok(ServerSet::of(open))
+}
+
+// A parcel with what is offered for each of the servers whose outbox is open.
+fn parcels_to(
+    alloc: Global,
+    journal: &Journal,
+    dests: &ServerSet,
+    offered: &Offered,
+) -> Result<Vec<Parcel>, NoMemory>
+    ensures parcels { IfOk result (λ parcels. parcels.items ≡ filter_map (parcel_to journal.now.entries (load_of offered.now)) dests.now) }
+    ensures rising { OnOk result (IsStrictlyIncreasing dests.now) }
+{
+    let mut parcels = Vec::with_capacity(alloc, dests.len())?;
+    for dest in dests.as_slice() {
+        if let Some(place) = journal.place(*dest) {
+            let load = offered.load(alloc)?;
+            parcels.push(Parcel { place, load })?;
+        }
+    }
+    Ok(parcels)
+}
+
+// Makes room in the journal for an entry and for as many closings as it places parcels, and on each way for these. False where the
+// journal has no place for them.
+fn reserve(journal: &mut Journal, links: &mut [Link], parcels: usize) -> Result<bool, NoMemory>
+    ensures told { IfOk result (λ fits. fits ≡ has_place journal.old.entries parcels) }
+    ensures reserved { IfOk result (λ fits. fits ≡ true → 0 < journal.new.reserved) }
+    ensures room { IfOk result (λ fits. fits ≡ true → HasRoom parcels links.new) }
+    ensures entries { journal.new.entries ≡ journal.old.entries }
+    ensures lanes { lanes_of links.new ≡ lanes_of links.old }
+    ensures count { length links.new ≡ length links.old }
+{
+    match journal.reserve((parcels as u64).saturating_add(1)) {
+        Ok(()) => {}
+        Err(JournalFault::Memory) => return Err(NoMemory),
+        Err(JournalFault::Limit) => return Ok(false),
+    }
+    make_room(links, parcels)?;
+    Ok(true)
+}
+
+// Makes room for so many more parcels on each way.
+fn make_room(links: &mut [Link], more: usize) -> Result<(), NoMemory>
+    ensures ok { OnOk result (HasRoom more links.new) }
+    ensures lanes { lanes_of links.new ≡ lanes_of links.old }
+    ensures count { length links.new ≡ length links.old }
+{
+    for link in links.iter_mut() {
+        link.make_room(more)?;
+    }
+    Ok(())
+}
+
+// Each parcel waits on the way to its destination.
+fn push_all(links: &mut [Link], parcels: Vec<Parcel>)
+    requires { HasRoom (length parcels.items) links.old }
+    ensures lanes { lanes_of links.new ≡ pushed_from 0 parcels.items (lanes_of links.old) }
+    ensures count { length links.new ≡ length links.old }
+{
+    for parcel in parcels {
+        let place = parcel.place.dest().place();
+        if place < links.len() {
+            links[place].push(parcel);
+        } else {
+            // It is for no one.
+            drop(parcel);
+        }
+    }
+}
