@@ -4,3 +4,7 @@ pub mod Places
 pub mod Lanes
 pub mod Servers
 pub mod Arrivals
+pub mod OnWays
+pub mod Rooms
+pub mod Worlds
+pub mod Packets

@@ -10,3 +10,8 @@ pub mod Offering
 pub mod Sending
 pub mod Taking
 pub mod Messages
+pub mod Ways
+pub mod Arriving
+pub mod World
+pub mod WorldParts
+pub mod Packets

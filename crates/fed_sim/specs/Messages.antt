@@ -1,5 +1,5 @@
 -- The way of a transaction and of its answer, in bytes (Matrix, Server-Server API, "PUT /_matrix/federation/v1/send/{txnId}").
-use Rattle.std.specs.Prelude.{◌≡◌, ℕ, List, ◌++◌, codes, decimal, take}
+use Rattle.std.specs.Prelude.{◌≡◌, ℕ, List, ◌++◌, codes, decimal, take, Option, Some, None}
 use Rattle.fed_outbox.specs.Transaction.{TransactionValue}
 use Rattle.fed_txn.specs.Writing.{body_value}
 use Rattle.fed_http.specs.Message.{RequestValue, Answer}
@@ -40,3 +40,15 @@ IsRequestIn bytes request = BeginsWith Requests bytes (message.Request request)
 -- the bytes of a reply begin with the text of one that has this status
 abbrev pub IsStatusIn : Answer → ℕ → Type 0
 IsStatusIn reply status = (read : Answer) × (BeginsWith Replies (reply_bytes reply) (message.Reply read) × (read.status ≡ status))
+
+-- they do not begin with the text of any request, or of any reply
+abbrev pub HasNoRequest : List ℕ → Type 0
+HasNoRequest bytes = (request : RequestValue) → ¬ (IsRequestIn bytes request)
+
+abbrev pub HasNoReply : List ℕ → Type 0
+HasNoReply bytes = (reply : Answer) → ¬ (BeginsWith Replies bytes (message.Reply reply))
+
+-- the status of a reply, where its bytes begin with the text of one
+abbrev pub IsStatusOf : Answer → Option ℕ → Type 0
+IsStatusOf reply (Some status) = IsStatusIn reply status
+IsStatusOf reply None = HasNoReply (reply_bytes reply)

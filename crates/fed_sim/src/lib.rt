@@ -11,17 +11,22 @@
 //! - `entering`: what is offered gets into a journal, and on its way
 //! - `offering`: what a server sends
 //! - `receiving`: what a server takes
+//! - `arriving`: what is taken for a room gets into it
+//! - `ways`: what a server does on the way to one destination
 //! - `messages`: from transactions to the bytes of requests, and from bytes to what they say
 //! - `packet`: `Packet`, what is on its way
-//! - `world`: `World`, and its steps
+//! - `world`: `World`, what others see of it
+//! - `making`: its steps
 //! - `rounds`: rounds in which nothing is lost
 //! - `running`: `run`, a world after a list of steps
 //! - `script`: `read_script`, the steps that a text names
 #![tactic(auto)]
 
+mod arriving;
 mod entering;
 mod hosted;
 mod link;
+mod making;
 mod messages;
 mod offered;
 mod offering;
@@ -35,6 +40,7 @@ mod server;
 mod setup;
 mod setup_check;
 mod step;
+mod ways;
 mod world;
 
 pub use hosted::Hosted;

@@ -1,8 +1,10 @@
 // From transactions to the bytes of requests, and from bytes to what they say.
-ghost use Rattle.std.specs.Prelude.{◌≡◌, IfOk, IfSome, string_bytes};
+ghost use Rattle.std.specs.Prelude.{◌≡◌, ◌≢◌, None, IfOk, IfSome, IfNone, string_bytes};
 ghost use Rattle.fed_outbox.specs.Seen.{seen};
 ghost use Rattle.fed_http.specs.Reader.{started};
-ghost use Rattle.fed_sim.specs.Messages.{target_of, asked_of, bytes_sent, BeginsWith, IsRequestIn, IsStatusIn};
+ghost use Rattle.fed_http.specs.declared.fault.HttpFault.TheVariants.{Memory};
+ghost use Rattle.fed_http.specs.Text.{HasNoText};
+ghost use Rattle.fed_sim.specs.Messages.{target_of, asked_of, bytes_sent, BeginsWith, IsRequestIn, HasNoRequest, IsStatusOf};
 
 use fed_event::Keys;
 use fed_http::{
@@ -42,33 +44,51 @@ fn target(alloc: Global, epoch: u64, number: u64) -> Result<String, NoMemory>
 
 /// The request that bytes are the text of.
 pub(crate) fn read_request(alloc: Global, bytes: &[u8]) -> Result<Option<Request>, NoMemory>
-    ensures { IfOk result (λ found. IfSome found (λ request. IsRequestIn bytes.now request)) }
+    ensures found { IfOk result (λ found. IfSome found (λ request. IsRequestIn bytes.now request)) }
+    ensures none { IfOk result (λ found. IfNone found (HasNoRequest bytes.now)) }
 {
     match read(alloc, Reader::requests(alloc), bytes)? {
         Some(Message::Request(request)) => Ok(Some(request)),
-        Some(Message::Reply(_)) | None => Ok(None),
+        Some(Message::Reply(_)) => Ok(None),
+        None => Ok(None),
     }
 }
 
 /// The status of a reply, after it was written and read.
 pub(crate) fn status_read(alloc: Global, reply: &Reply) -> Result<Option<u16>, NoMemory>
-    ensures { IfOk result (λ found. IfSome found (λ status. IsStatusIn reply.now status)) }
+    ensures { IfOk result (λ found. IsStatusOf reply.now found) }
 {
     let bytes = write_reply(alloc, reply)?;
     match read(alloc, Reader::replies(alloc), &bytes)? {
         Some(Message::Reply(reply)) => Ok(Some(reply.status())),
-        Some(Message::Request(_)) | None => Ok(None),
+        Some(Message::Request(_)) => Ok(None),
+        None => Ok(None),
     }
 }
 
 // The message that a reader finds in bytes.
 fn read(alloc: Global, mut reader: Reader, bytes: &[u8]) -> Result<Option<Message>, NoMemory>
     requires { reader ≡ started reader.kind }
-    ensures { IfOk result (λ found. IfSome found (λ m. BeginsWith reader.kind bytes.now m)) }
+    ensures found { IfOk result (λ found. IfSome found (λ m. BeginsWith reader.kind bytes.now m)) }
+    ensures none { IfOk result (λ found. IfNone found (HasNoText reader.kind bytes.now)) }
 {
     match reader.feed(alloc, bytes) {
         Ok((message, _)) => Ok(message),
-        Err(HttpFault::Memory) => Err(NoMemory),
-        Err(_) => Ok(None),
+        Err(fault) => no_message(fault),
+    }
+}
+
+// What bytes in which a reader finds a fault come to.
+fn no_message(fault: HttpFault) -> Result<Option<Message>, NoMemory>
+    ensures told { IfOk result (λ found. found ≡ None) }
+    ensures others { IfOk result (λ _. fault ≢ Memory) }
+{
+    match fault {
+        HttpFault::Memory => Err(NoMemory),
+        HttpFault::BadHead
+        | HttpFault::TooLarge
+        | HttpFault::BadLength
+        | HttpFault::BadChunk
+        | HttpFault::HasFailed => Ok(None),
     }
 }

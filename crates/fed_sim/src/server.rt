@@ -54,14 +54,6 @@ impl Server {
         }
         self.links.get(dest.place())
     }
-
-    /// The same, to change it.
-    pub(crate) fn link_mut(&mut self, dest: ServerIndex) -> Option<&mut Link> {
-        if dest == self.own {
-            return None;
-        }
-        self.links.get_mut(dest.place())
-    }
 }
 
 /// The keys of the server of this name.

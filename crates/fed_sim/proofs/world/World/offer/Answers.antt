@@ -1,0 +1,21 @@
+use Rattle.std.proofs.Common.{map, string_bytes, sym, subst}
+use Rattle.std.proofs.lemmas.Result.{IfOk-weaker, on_err_weaker}
+use Rattle.fed_room_contract.specs.Draft.{DraftFields}
+use Rattle.fed_sim.specs.Offering.{IsOffered}
+use Rattle.fed_sim.specs.ServerParts.{server_of}
+use Rattle.fed_sim.specs.WorldParts.{world_of}
+use Rattle.fed_sim.proofs.Worlds.{at_none, at_place, same_servers}
+use Rattle.fed_sim.proofs.world.World.offer.Goals as goal
+
+pub returns-then-not-has_server-clause-offered : goal.returns-then-not-has_server-clause-offered
+returns-then-not-has_server-clause-offered c = at_none (world_of c.args.self.now) c.args.self.now.servers.items c.args.server (sym c.if-not-has_server.ensures)
+
+pub returns-clause-offered : goal.returns-clause-offered
+returns-clause-offered c =
+    IfOk-weaker c.offer.result _ _ (λ told does. at_place (world_of c.args.self.now) c.args.self.now.servers.items c.args.server c.place.result c.place.ensures.place c.index_mut.result.now c.offer.new.self c.index_mut.ensures.value (sym c.if-not-has_server.ensures) told
+    (subst (λ (d : DraftFields). IsOffered c.args.self.now.list (map string_bytes c.args.self.now.known.items) d (server_of c.index_mut.result.now) told (server_of c.offer.new.self)) c.in_ok-draft.ensures
+    (subst (λ ids. IsOffered c.args.self.now.list (map string_bytes ids) c.in_ok-draft.draft (server_of c.index_mut.result.now) told (server_of c.offer.new.self)) c.deref.ensures.value does))) c.offer.ensures.offered
+
+pub returns-clause-err : goal.returns-clause-err
+returns-clause-err c =
+    on_err_weaker c.offer.result (same_servers (world_of c.args.self.now) c.args.self.now.servers.items c.args.server c.place.result c.place.ensures.place c.index_mut.result.now c.offer.new.self c.index_mut.ensures.value) c.offer.ensures.err

@@ -1,0 +1,79 @@
+// What a server does on the way to one destination.
+ghost use Rattle.std.specs.Prelude.{◌≡◌, ◌≤◌, OnErr, IfOk};
+ghost use Rattle.fed_sim.specs.Ways.{has_way, on_way, collecting, cutting, failing, settling};
+
+use crate::link::Cut;
+use crate::outcome::Outcome;
+use crate::server::Server;
+use fed_dest::ServerIndex;
+use fed_json::NoMemory;
+
+impl Server {
+    ghost use Rattle.fed_sim.specs.ServerParts.{server_of};
+
+    /// Whether there is a way to a destination: to a listed server other than this one.
+    pub(crate) fn has_way(&self, dest: ServerIndex) -> bool
+        ensures { result ≡ has_way (server_of self.now) dest }
+    {
+        dest != self.own && dest.place() < self.links.len()
+    }
+
+    /// The first parcel for a destination goes into its outbox. Nothing changes where memory runs out.
+    pub(crate) fn collect(&mut self, dest: ServerIndex) -> Result<Outcome, NoMemory>
+        ensures collected { IfOk result (λ told. (told, server_of self.new) ≡ on_way dest collecting (server_of self.old)) }
+        ensures err { OnErr result (server_of self.new ≡ server_of self.old) }
+    {
+        if !self.has_way(dest) {
+            return Ok(Outcome::NoSuchServer);
+        }
+        match self.links[dest.place()].collect()? {
+            Some(kind) => Ok(Outcome::Collected(kind)),
+            None => Ok(Outcome::NothingCollected),
+        }
+    }
+
+    /// Makes the next transaction for a destination.
+    pub(crate) fn cut(&mut self, dest: ServerIndex, now: u64) -> Outcome
+        requires { now ≤ 9007199254740991 }
+        ensures { (result, server_of self.new) ≡ on_way dest (cutting now) (server_of self.old) }
+    {
+        if !self.has_way(dest) {
+            return Outcome::NoSuchServer;
+        }
+        match self.links[dest.place()].cut(now) {
+            Some(Cut { number, pdus, edus }) => Outcome::Cut { number, pdus, edus },
+            None => Outcome::NoCut,
+        }
+    }
+
+    /// The sending of the unanswered transaction for a destination has failed.
+    pub(crate) fn failed(&mut self, dest: ServerIndex, now: u64) -> Outcome
+        requires { now ≤ 9007199254740991 }
+        ensures { (result, server_of self.new) ≡ on_way dest (failing now) (server_of self.old) }
+    {
+        if !self.has_way(dest) {
+            return Outcome::NoSuchServer;
+        }
+        match self.links[dest.place()].failed(now) {
+            Some(at_ms) => Outcome::Due { at_ms },
+            None => Outcome::NotFailed,
+        }
+    }
+
+    /// A transaction for a destination was answered with this status, or with what is no answer.
+    pub(crate) fn settle(
+        &mut self,
+        dest: ServerIndex,
+        number: u64,
+        status: Option<u16>,
+        now: u64,
+    ) -> Outcome
+        requires { now ≤ 9007199254740991 }
+        ensures { (result, server_of self.new) ≡ on_way dest (settling number status now) (server_of self.old) }
+    {
+        if !self.has_way(dest) {
+            return Outcome::NoSuchServer;
+        }
+        Outcome::Settled(self.links[dest.place()].settle(number, status, now))
+    }
+}
