@@ -23,7 +23,7 @@ use Rattle.fed_json.proofs.Parts.{list_of-items_of}
 use Rattle.fed_event.specs.Checked.{CheckedEvent}
 use Rattle.fed_event.proofs.Events.{is_event}
 use Rattle.fed_outbox.specs.Transaction.{TransactionValue}
-use Rattle.fed_txn.specs.Reading.{transaction_or_fault, read_of}
+use Rattle.fed_txn.specs.Reading.{body_of, transaction_or_fault, read_of}
 use Rattle.fed_txn.specs.Transaction.{transaction_of}
 use Rattle.fed_txn.specs.Writing.{event_of, list_value, with_edus, body_value, received, IsWithinLimits, edus_text, header_text, pdus_text}
 use Rattle.fed_txn.specs.WritingParts.{IsWritten, IsWrittenEvent}
@@ -195,7 +195,7 @@ length-whole xs ys zs = rw (length-append, length-append, length-append, length-
 -- ---- reading it
 
 body_reads : (origin : List ℕ) (at_ms : ℕ) (pdus edus : List Data) → IsUtf8 origin → length origin ≤ 65536 → at_ms < 2 ^ 53 → length pdus ≤ 50 → length edus ≤ 100
-    → AreParts pdus → AreParts edus → read_of (canonical_text (body_of_parts origin at_ms pdus edus)) ≡ transaction_of (body_of_parts origin at_ms pdus edus)
+    → AreParts pdus → AreParts edus → body_of (canonical_text (body_of_parts origin at_ms pdus edus)) ≡ Ok (body_of_parts origin at_ms pdus edus)
 body_reads origin at_ms pdus edus text short time few_pdus few_edus p e =
     let body = body_of_parts origin at_ms pdus edus in
     let is = body_is origin at_ms pdus edus time p e in
@@ -206,11 +206,11 @@ body_reads origin at_ms pdus edus text short time few_pdus few_edus p e =
     (IsUtf8-append (pdus_text pdus) (codes "}") (pdus_utf8 pdus p) (IsUtf8-are_ascii (codes "}") refl))))) in
     let size : length (canonical_text body) ≤ 16777216 = subst (λ whole. length whole ≤ 16777216) (body_text edus pdus origin at_ms)
     (omega (arith, length-whole (edus_text edus) (header_text origin at_ms) (pdus_text pdus), length-edus_text edus e, length-header_text origin at_ms time, length-pdus_text pdus p)) in
-    ap transaction_or_fault (body_of_value (canonical_text body) body size (record {
+    body_of_value (canonical_text body) body size (record {
       reads = (utf8, read-compact_text body is.whole is.rising (omega (arith, is.levels)));
       whole = is.whole;
       shallow = omega (arith, is.levels);
-    }))
+    })
 
 form_of : (origin : List ℕ) (at_ms : ℕ) (pdus edus : List Data) → at_ms < 2 ^ 53 → length pdus ≤ 50 → length edus ≤ 100
     → transaction_of (body_of_parts origin at_ms pdus edus) ≡ Ok (record { origin = origin; at_ms = pos at_ms; pdus = pdus; edus = edus })
@@ -218,11 +218,21 @@ form_of origin at_ms pdus [] time few_pdus few_edus = rw (list_of-items_of pdus,
 form_of origin at_ms pdus (edu ∷ edus) time few_pdus few_edus =
     rw (list_of-items_of pdus, list_of-items_of edus, lt-ltb at_ms (2 ^ 63) (omega arith), le-leb (length pdus) 50 few_pdus, le-leb (length (edu ∷ edus)) 100 few_edus) refl
 
-pub reads_back : (origin : List ℕ) (t : TransactionValue) → IsUtf8 origin → All IsWrittenEvent t.pdus → All IsWritten t.edus → IsWithinLimits t → length origin ≤ 65536
-    → read_of (canonical_text (body_value origin t)) ≡ Ok (received origin t)
-reads_back origin t text pdus edus limits short =
+-- the body of a transaction within the limits has its form
+pub form_back : (origin : List ℕ) (t : TransactionValue) → IsWithinLimits t → transaction_of (body_value origin t) ≡ Ok (received origin t)
+form_back origin t limits =
+    let few : length (map event_of t.pdus) ≤ 50 = rw length-map limits.pdus in
+    form_of origin t.at_ms (map event_of t.pdus) t.edus limits.time few limits.edus
+
+pub body_back : (origin : List ℕ) (t : TransactionValue) → IsUtf8 origin → All IsWrittenEvent t.pdus → All IsWritten t.edus → IsWithinLimits t → length origin ≤ 65536
+    → body_of (canonical_text (body_value origin t)) ≡ Ok (body_value origin t)
+body_back origin t text pdus edus limits short =
     let p = are_parts (map event_of t.pdus) (event_parts t.pdus pdus) in
     let e = are_parts t.edus (edu_parts t limits edus) in
     let few : length (map event_of t.pdus) ≤ 50 = rw length-map limits.pdus in
     body_reads origin t.at_ms (map event_of t.pdus) t.edus text short limits.time few limits.edus p e
-    ∙ form_of origin t.at_ms (map event_of t.pdus) t.edus limits.time few limits.edus
+
+pub reads_back : (origin : List ℕ) (t : TransactionValue) → IsUtf8 origin → All IsWrittenEvent t.pdus → All IsWritten t.edus → IsWithinLimits t → length origin ≤ 65536
+    → read_of (canonical_text (body_value origin t)) ≡ Ok (received origin t)
+reads_back origin t text pdus edus limits short =
+    ap transaction_or_fault (body_back origin t text pdus edus limits short) ∙ form_back origin t limits

@@ -2,7 +2,7 @@
 ghost use Rattle.std.specs.Prelude.{◌≡◌, ◌++◌, ◌≤◌, IfOk, OnOk, Ok, All, map, length};
 ghost use Rattle.fed_json.specs.CanonicalText.{canonical_text};
 ghost use Rattle.fed_outbox.specs.Seen.{seen};
-ghost use Rattle.fed_txn.specs.Reading.{read_of};
+ghost use Rattle.fed_txn.specs.Reading.{body_of, read_of};
 ghost use Rattle.fed_txn.specs.Writing.{body_value, received, IsWithinLimits, edus_text, header_text, pdus_text, event_of};
 ghost use Rattle.fed_txn.specs.WritingParts.{IsWritten, IsWrittenEvent};
 
@@ -23,6 +23,8 @@ pub fn write(
     origin: &str,
 ) -> Result<Vec<u8>, NoMemory>
     ensures exact { IfOk result (λ text. text.items ≡ canonical_text (body_value origin.now (seen transaction.now))) }
+    ensures body { IfOk result (λ text. IsWithinLimits (seen transaction.now) → length origin.now ≤ 65536
+        → body_of text.items ≡ Ok (body_value origin.now (seen transaction.now))) }
     ensures read_back { IfOk result (λ text. IsWithinLimits (seen transaction.now) → length origin.now ≤ 65536
         → read_of text.items ≡ Ok (received origin.now (seen transaction.now))) }
 {
