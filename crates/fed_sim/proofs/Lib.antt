@@ -8,3 +8,6 @@ pub mod OnWays
 pub mod Rooms
 pub mod Worlds
 pub mod Packets
+pub mod Reaching
+pub mod Built
+pub mod Options

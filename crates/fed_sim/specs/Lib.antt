@@ -15,3 +15,7 @@ pub mod Arriving
 pub mod World
 pub mod WorldParts
 pub mod Packets
+pub mod Showing
+pub mod Steps
+pub mod Running
+pub mod NewServer

@@ -1,7 +1,9 @@
 -- The way of a transaction and of its answer, in bytes (Matrix, Server-Server API, "PUT /_matrix/federation/v1/send/{txnId}").
-use Rattle.std.specs.Prelude.{◌≡◌, ℕ, List, ◌++◌, codes, decimal, take, Option, Some, None}
+use Rattle.std.specs.Prelude.{◌≡◌, ◌<◌, ◌≤◌, ◌^◌, ℕ, List, ◌++◌, length, codes, decimal, take, Option, Some, None, Ok}
+use Rattle.fed_json.specs.CanonicalText.{canonical_text}
 use Rattle.fed_outbox.specs.Transaction.{TransactionValue}
-use Rattle.fed_txn.specs.Writing.{body_value}
+use Rattle.fed_txn.specs.Reading.{body_of}
+use Rattle.fed_txn.specs.Writing.{body_value, IsWithinLimits}
 use Rattle.fed_http.specs.Message.{RequestValue, Answer}
 use Rattle.fed_http.specs.Signing.{Asked, request_of}
 use Rattle.fed_http.specs.Text.{IsText}
@@ -28,6 +30,12 @@ asked_of origin dest epoch t = record {
 -- the bytes of its request, signed by a key of this name
 abbrev pub bytes_sent : Asked → List ℕ → (List ℕ → List ℕ) → List ℕ
 bytes_sent asked key sign = request_bytes (request_of asked key sign)
+
+-- The id of a transaction is made of numbers of 64 bits, and the text of its body, where it is within its limits, is read as that body.
+pub record IsReadable (origin : List ℕ) (epoch : ℕ) (t : TransactionValue) : Type 0 where
+  pub epoch_fits : epoch < 2 ^ 64
+  pub number_fits : t.number < 2 ^ 64
+  pub body : IsWithinLimits t → length origin ≤ 65536 → body_of (canonical_text (body_value origin t)) ≡ Ok (body_value origin t)
 
 -- bytes begin with the text of a message
 abbrev pub BeginsWith : Kind → List ℕ → Message → Type 0

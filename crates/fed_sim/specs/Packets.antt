@@ -1,5 +1,5 @@
 -- What goes from one server to another (Matrix, Server-Server API, "Transactions").
-use Rattle.std.specs.Prelude.{◌≡◌, ℕ, zero, suc, ◌+◌, true, false, List, [], ◌∷◌, ◌++◌, length, Option, Some, None, slice_get}
+use Rattle.std.specs.Prelude.{◌≡◌, ℕ, zero, suc, ◌+◌, true, false, List, [], ◌∷◌, ◌++◌, length, Option, Some, None, option_and_then, slice_get}
 use Rattle.fed_keys.specs.StandIn.{stand_in_key, stand_in_signature}
 use Rattle.fed_http.specs.Message.{RequestValue}
 use Rattle.fed_outbox.specs.Collecting.{Lane}
@@ -8,7 +8,7 @@ use Rattle.fed_outbox.specs.Transaction.{TransactionValue}
 use Rattle.fed_inbox.specs.Reply.{Answer}
 use Rattle.fed_sim.specs.declared.outcome.Outcome.{Outcome}
 use Rattle.fed_sim.specs.declared.outcome.Outcome.TheVariants.{NoSuchServer, NothingToPost, NotDue, Posted, NoSuchRequest, Answered, NoSuchAnswer}
-use Rattle.fed_sim.specs.Messages.{asked_of, bytes_sent, IsRequestIn, HasNoRequest, IsStatusOf}
+use Rattle.fed_sim.specs.Messages.{asked_of, bytes_sent, IsReadable, IsRequestIn, HasNoRequest, IsStatusOf}
 use Rattle.fed_sim.specs.Server.{ServerState}
 use Rattle.fed_sim.specs.Taking.{IsReceived}
 use Rattle.fed_sim.specs.Ways.{way_to, IsOnWay, settling}
@@ -37,6 +37,10 @@ with_packet w packet = record {
   now = w.now;
 }
 
+-- the way from a server to a destination: there is one where both are listed and they are not the same
+abbrev pub way_from : WorldState → ℕ → ℕ → Option Lane
+way_from w server dest = option_and_then (λ s. way_to s dest) (slice_get w.servers server)
+
 -- a listed server, and the way from it to a destination
 pub record IsOn (w : WorldState) (server dest : ℕ) (s : ServerState) (lane : Lane) : Type 0 where
   pub server_is : slice_get w.servers server ≡ Some s
@@ -55,7 +59,7 @@ pub data IsPosted (server dest : ℕ) (old : WorldState) : Outcome → WorldStat
   not_due : (s : ServerState) (lane : Lane) (t : TransactionValue) → IsOn old server dest s lane → lane.outbox.unanswered ≡ Some t
       → is_due lane.outbox old.now ≡ false → IsPosted server dest old (NotDue lane.outbox.due_at) old
   posted : (s : ServerState) (lane : Lane) (t : TransactionValue) (name : List ℕ) → IsOn old server dest s lane → lane.outbox.unanswered ≡ Some t
-      → is_due lane.outbox old.now ≡ true → slice_get old.names dest ≡ Some name
+      → is_due lane.outbox old.now ≡ true → slice_get old.names dest ≡ Some name → IsReadable s.name old.epoch t
       → IsPosted server dest old (Posted (length old.packets + 1)) (with_packet old (request_for old server s dest name t))
 
 -- What is told when the request of packet k reaches its server, and what the world is then.

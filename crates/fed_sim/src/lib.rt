@@ -15,7 +15,8 @@
 //! - `ways`: what a server does on the way to one destination
 //! - `messages`: from transactions to the bytes of requests, and from bytes to what they say
 //! - `packet`: `Packet`, what is on its way
-//! - `world`: `World`, what others see of it
+//! - `world`: `World`
+//! - `seen`: what others see of it
 //! - `making`: its steps
 //! - `rounds`: rounds in which nothing is lost
 //! - `running`: `run`, a world after a list of steps
@@ -36,6 +37,7 @@ mod receiving;
 mod rounds;
 mod running;
 mod script;
+mod seen;
 mod server;
 mod setup;
 mod setup_check;

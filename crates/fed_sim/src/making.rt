@@ -1,8 +1,11 @@
 // The steps of a world.
 ghost use Rattle.std.specs.Prelude.{◌≡◌, ◌≤◌, OnErr, IfOk, ◌&&◌, length, nat_lt, nat_le};
+ghost use Rattle.fed_inbox.specs.Taken.{taken_left};
 ghost use Rattle.fed_sim.specs.Arriving.{IsArrived, IsArrivedInPart, IsGivenTo, IsGivenInPart};
 ghost use Rattle.fed_sim.specs.Offering.{IsOffered, IsEduOffered, IsClosedFor};
 ghost use Rattle.fed_sim.specs.Packets.{IsPosted, IsTaken, IsSettled};
+ghost use Rattle.fed_sim.specs.Showing.{IsShown, count_of};
+ghost use Rattle.fed_sim.specs.Steps.{Reached, Does, Leaves, Makes};
 ghost use Rattle.fed_sim.specs.Ways.{IsOnWay, collecting, cutting, failing};
 ghost use Rattle.fed_sim.specs.World.{AtServer, AtServerInPart, dated, ticked};
 
@@ -21,8 +24,21 @@ use std::alloc::Global;
 impl World {
     ghost use Rattle.fed_sim.specs.WorldParts.{world_of};
 
-    /// Makes a step.
-    pub(crate) fn make(&mut self, alloc: Global, step: &Step) -> Result<Outcome, NoMemory> {
+    /// Makes a step, and says where memory ran out in it.
+    pub(crate) fn step(&mut self, alloc: Global, step: &Step) -> Outcome
+        ensures { Makes step.now (world_of self.old) result (world_of self.new) }
+    {
+        match self.make(alloc, step) {
+            Ok(outcome) => outcome,
+            Err(NoMemory) => Outcome::NoMemory,
+        }
+    }
+
+    // Makes a step.
+    fn make(&mut self, alloc: Global, step: &Step) -> Result<Outcome, NoMemory>
+        ensures made { IfOk result (λ told. Does step.now (world_of self.old) told (world_of self.new)) }
+        ensures err { OnErr result (Leaves step.now (world_of self.old) (world_of self.new)) }
+    {
         match step {
             Step::Offer { server, draft } => self.offer(alloc, *server, draft),
             Step::OfferEdu { server, edu, dests } => self.offer_edu(alloc, *server, edu, dests),
@@ -282,28 +298,35 @@ impl World {
     }
 
     /// The moment rises to this one, where that is later and no greater than the greatest; whether it has been reached.
-    pub(crate) fn wait_until(&mut self, at_ms: u64) -> bool {
+    pub(crate) fn wait_until(&mut self, at_ms: u64) -> bool
+        ensures { Reached (world_of self.old) (world_of self.new) }
+    {
         if MAX_MOMENT < at_ms {
             return false;
         }
-        self.now = self.now.max(at_ms);
+        if self.now < at_ms {
+            self.now = at_ms;
+        }
         true
     }
 
     // What a server took from an origin, and what the origin counts as delivered to it.
-    fn shown(&self, server: ServerIndex, origin: ServerIndex) -> Outcome {
+    fn shown(&self, server: ServerIndex, origin: ServerIndex) -> Outcome
+        ensures { IsShown server origin (world_of self.entry.now) result }
+    {
         let Some(inbox) = self.inbox(server) else {
             return Outcome::NoSuchServer;
         };
         let Some(outbox) = self.outbox(origin, server) else {
             return Outcome::NoSuchServer;
         };
-        let Some(name) = self.list.names().get(origin.place()) else {
+        if self.list.len() <= origin.place() {
             return Outcome::NoSuchServer;
-        };
+        }
+        let name = self.list.name(origin);
         Outcome::Shown {
-            taken: count_of(inbox.taken(name.as_str())),
-            taken_edus: count_of(inbox.taken_edus(name.as_str())),
+            taken: count_of(inbox.taken(name)),
+            taken_edus: count_of(inbox.taken_edus(name)),
             acked: outbox.acked(),
             acked_edus: outbox.acked_edus(),
         }
@@ -311,7 +334,9 @@ impl World {
 }
 
 // How many texts they are.
-fn count_of(texts: Taken<'_>) -> u64 {
+fn count_of(texts: Taken<'_>) -> u64
+    ensures { result ≡ count_of (taken_left texts.entry) }
+{
     let mut count = 0u64;
     for _ in texts {
         count = count.saturating_add(1);

@@ -1,10 +1,10 @@
 // From transactions to the bytes of requests, and from bytes to what they say.
-ghost use Rattle.std.specs.Prelude.{◌≡◌, ◌≢◌, None, IfOk, IfSome, IfNone, string_bytes};
+ghost use Rattle.std.specs.Prelude.{◌≡◌, ◌≢◌, ◌<◌, ◌^◌, None, IfOk, IfSome, IfNone, string_bytes};
 ghost use Rattle.fed_outbox.specs.Seen.{seen};
 ghost use Rattle.fed_http.specs.Reader.{started};
 ghost use Rattle.fed_http.specs.declared.fault.HttpFault.TheVariants.{Memory};
 ghost use Rattle.fed_http.specs.Text.{HasNoText};
-ghost use Rattle.fed_sim.specs.Messages.{target_of, asked_of, bytes_sent, BeginsWith, IsRequestIn, HasNoRequest, IsStatusOf};
+ghost use Rattle.fed_sim.specs.Messages.{target_of, asked_of, bytes_sent, IsReadable, BeginsWith, IsRequestIn, HasNoRequest, IsStatusOf};
 
 use fed_event::Keys;
 use fed_http::{
@@ -22,7 +22,8 @@ pub(crate) fn request_bytes<K: Keys>(
     keys: &K,
     dest: &str,
 ) -> Result<Vec<u8>, NoMemory>
-    ensures { IfOk result (λ bytes. bytes.items ≡ bytes_sent (asked_of (K.own_name keys.now) dest.now epoch (seen transaction.now)) (K.own_key keys.now) (K.own_signature keys.now)) }
+    ensures exact { IfOk result (λ bytes. bytes.items ≡ bytes_sent (asked_of (K.own_name keys.now) dest.now epoch (seen transaction.now)) (K.own_key keys.now) (K.own_signature keys.now)) }
+    ensures read_back { IfOk result (λ _. IsReadable (K.own_name keys.now) epoch (seen transaction.now)) }
 {
     let body = fed_txn::write(alloc, transaction, keys.own())?;
     let target = target(alloc, epoch, transaction.number)?;
@@ -32,7 +33,8 @@ pub(crate) fn request_bytes<K: Keys>(
 
 // The target of the request for a transaction: its id is the epoch and its number, with a hyphen between them.
 fn target(alloc: Global, epoch: u64, number: u64) -> Result<String, NoMemory>
-    ensures { IfOk result (λ target. string_bytes target ≡ target_of epoch number) }
+    ensures text { IfOk result (λ target. string_bytes target ≡ target_of epoch number) }
+    ensures number_fits { IfOk result (λ _. number < 2 ^ 64) }
 {
     let mut target = String::from_str(alloc, "/_matrix/federation/v1/send/")?;
     let mut digits = itoa::Buffer::new();

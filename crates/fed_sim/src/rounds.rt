@@ -1,4 +1,8 @@
 // Rounds in which nothing is lost.
+ghost use Rattle.std.specs.Prelude.{OnOk, OnErr};
+ghost use Rattle.fed_sim.specs.Steps.{Reached, ReachedInPart};
+ghost use Rattle.fed_sim.specs.WorldParts.{world_of};
+
 use crate::outcome::Outcome;
 use crate::world::World;
 use fed_dest::{MAX_SERVERS, ServerIndex};
@@ -14,12 +18,18 @@ use std::alloc::Global;
 /// # Errors
 ///
 /// `NoMemory`; then the steps before the one that was refused are made.
-pub fn calm(alloc: Global, world: &mut World, rounds: u64) -> Result<(), NoMemory> {
+pub fn calm(alloc: Global, world: &mut World, rounds: u64) -> Result<(), NoMemory>
+    ensures ok { OnOk result (Reached (world_of world.old) (world_of world.new)) }
+    ensures err { OnErr result (ReachedInPart (world_of world.old) (world_of world.new)) }
+{
     calm_rounds(world, alloc, rounds)
 }
 
 // The same.
-pub(crate) fn calm_rounds(world: &mut World, alloc: Global, rounds: u64) -> Result<(), NoMemory> {
+pub(crate) fn calm_rounds(world: &mut World, alloc: Global, rounds: u64) -> Result<(), NoMemory>
+    ensures ok { OnOk result (Reached (world_of world.old) (world_of world.new)) }
+    ensures err { OnErr result (ReachedInPart (world_of world.old) (world_of world.new)) }
+{
     for _ in 0..rounds {
         if !calm_round(world, alloc)? {
             return Ok(());
@@ -29,7 +39,10 @@ pub(crate) fn calm_rounds(world: &mut World, alloc: Global, rounds: u64) -> Resu
 }
 
 // One round; whether anything was done.
-fn calm_round(world: &mut World, alloc: Global) -> Result<bool, NoMemory> {
+fn calm_round(world: &mut World, alloc: Global) -> Result<bool, NoMemory>
+    ensures ok { OnOk result (Reached (world_of world.old) (world_of world.new)) }
+    ensures err { OnErr result (ReachedInPart (world_of world.old) (world_of world.new)) }
+{
     let count = world.names().len().min(MAX_SERVERS);
     let mut is_busy = false;
     for place in 0..count {
@@ -49,7 +62,10 @@ fn calm_server(
     alloc: Global,
     server: ServerIndex,
     count: usize,
-) -> Result<bool, NoMemory> {
+) -> Result<bool, NoMemory>
+    ensures ok { OnOk result (Reached (world_of world.old) (world_of world.new)) }
+    ensures err { OnErr result (ReachedInPart (world_of world.old) (world_of world.new)) }
+{
     let mut is_busy = false;
     for place in 0..count.min(MAX_SERVERS) {
         let dest = ServerIndex::new(place);
@@ -62,11 +78,10 @@ fn calm_server(
 }
 
 // All parcels for a destination go into its outbox; whether there were some.
-fn collect_all(
-    world: &mut World,
-    server: ServerIndex,
-    dest: ServerIndex,
-) -> Result<bool, NoMemory> {
+fn collect_all(world: &mut World, server: ServerIndex, dest: ServerIndex) -> Result<bool, NoMemory>
+    ensures ok { OnOk result (Reached (world_of world.old) (world_of world.new)) }
+    ensures err { OnErr result (ReachedInPart (world_of world.old) (world_of world.new)) }
+{
     let waiting = world.queued(server, dest);
     for _ in 0..waiting {
         world.collect(server, dest)?;
@@ -80,7 +95,10 @@ fn exchange(
     alloc: Global,
     server: ServerIndex,
     dest: ServerIndex,
-) -> Result<bool, NoMemory> {
+) -> Result<bool, NoMemory>
+    ensures ok { OnOk result (Reached (world_of world.old) (world_of world.new)) }
+    ensures err { OnErr result (ReachedInPart (world_of world.old) (world_of world.new)) }
+{
     world.cut(server, dest);
     let Some(due_at) = world.due_at(server, dest) else {
         return Ok(false);
@@ -99,7 +117,10 @@ fn exchange(
 }
 
 // A server gives its rooms all that waits in front of them; whether anything did.
-fn apply_all(world: &mut World, alloc: Global, server: ServerIndex) -> Result<bool, NoMemory> {
+fn apply_all(world: &mut World, alloc: Global, server: ServerIndex) -> Result<bool, NoMemory>
+    ensures ok { OnOk result (Reached (world_of world.old) (world_of world.new)) }
+    ensures err { OnErr result (ReachedInPart (world_of world.old) (world_of world.new)) }
+{
     let mut is_busy = false;
     for place in 0..world.known.len() {
         is_busy |= apply_room(world, alloc, server, place)?;
@@ -113,7 +134,10 @@ fn apply_room(
     alloc: Global,
     server: ServerIndex,
     place: usize,
-) -> Result<bool, NoMemory> {
+) -> Result<bool, NoMemory>
+    ensures ok { OnOk result (Reached (world_of world.old) (world_of world.new)) }
+    ensures err { OnErr result (ReachedInPart (world_of world.old) (world_of world.new)) }
+{
     let waiting = world.queued_at(server, place);
     for _ in 0..waiting {
         world.apply_at(alloc, server, place)?;

@@ -1,6 +1,13 @@
 // A world after a list of steps.
+ghost use Rattle.std.specs.Prelude.{◌≡◌, ℕ, Some, IfOk, length, map, slice_get, string_bytes};
+ghost use Rattle.fed_sim.specs.declared.server.Server.{Server};
+ghost use Rattle.fed_sim.specs.declared.setup.RoomSetup.{RoomSetup};
+ghost use Rattle.fed_sim.specs.Hosted.{HostedState};
+ghost use Rattle.fed_sim.specs.Running.{Begins, IsBeginning, IsBegun, IsRun};
+ghost use Rattle.fed_sim.specs.ServerParts.{server_of};
+ghost use Rattle.fed_sim.specs.WorldParts.{world_of};
+
 use crate::hosted::Hosted;
-use crate::outcome::Outcome;
 use crate::server::{Server, keys_of};
 use crate::setup::{RoomSetup, Setup, SimFault};
 use crate::setup_check::{list_of, room_fault};
@@ -17,14 +24,13 @@ use std::alloc::Global;
 /// # Errors
 ///
 /// `BadSetup` where no world begins with the setup; `Memory` where memory for its beginning ran out.
-pub fn run(alloc: Global, setup: &Setup, steps: &[Step]) -> Result<World, SimFault> {
+pub fn run(alloc: Global, setup: &Setup, steps: &[Step]) -> Result<World, SimFault>
+    ensures { IfOk result (λ world. IsRun setup.now steps.now world.replies.items (world_of world)) }
+{
     let mut world = begin(alloc, setup)?;
     let mut replies = Vec::with_capacity(alloc, steps.len())?;
     for step in steps {
-        let outcome = match world.make(alloc, step) {
-            Ok(outcome) => outcome,
-            Err(NoMemory) => Outcome::NoMemory,
-        };
+        let outcome = world.step(alloc, step);
         // There is room for it.
         replies.push(outcome).unwrap();
     }
@@ -33,7 +39,9 @@ pub fn run(alloc: Global, setup: &Setup, steps: &[Step]) -> Result<World, SimFau
 }
 
 // The world before any step.
-fn begin(alloc: Global, setup: &Setup) -> Result<World, SimFault> {
+fn begin(alloc: Global, setup: &Setup) -> Result<World, SimFault>
+    ensures { IfOk result (λ world. Begins setup.now (world_of world)) }
+{
     let list = list_of(alloc, &setup.servers)?;
     check_rooms(&setup.rooms, &list)?;
     let known = ids_of(alloc, &setup.rooms)?;
@@ -60,7 +68,9 @@ fn check_rooms(rooms: &[RoomSetup], list: &List) -> Result<(), SimFault> {
 }
 
 // The ids of the rooms.
-fn ids_of(alloc: Global, rooms: &[RoomSetup]) -> Result<Vec<String>, NoMemory> {
+fn ids_of(alloc: Global, rooms: &[RoomSetup]) -> Result<Vec<String>, NoMemory>
+    ensures { IfOk result (λ ids. map string_bytes ids.items ≡ map (λ room. string_bytes room.id) rooms.now) }
+{
     let mut ids = Vec::with_capacity(alloc, rooms.len())?;
     for room in rooms {
         ids.push(String::from_str(alloc, &room.id)?)?;
@@ -74,7 +84,10 @@ fn servers(
     list: &List,
     known: &[String],
     rooms: &[RoomSetup],
-) -> Result<Vec<Server>, SimFault> {
+) -> Result<Vec<Server>, SimFault>
+    ensures count { IfOk result (λ servers. length servers.items ≡ length list.now) }
+    ensures each { IfOk result (λ servers. (k : ℕ) (s : Server) → slice_get servers.items k ≡ Some s → IsBeginning list.now (map string_bytes known.now) rooms.now k (server_of s)) }
+{
     let keys = all_keys(alloc, list)?;
     let count = list.len();
     let mut servers = Vec::with_capacity(alloc, count)?;
@@ -87,7 +100,9 @@ fn servers(
 }
 
 // The keys of all servers.
-fn all_keys(alloc: Global, list: &List) -> Result<Vec<StandIn>, NoMemory> {
+fn all_keys(alloc: Global, list: &List) -> Result<Vec<StandIn>, NoMemory>
+    ensures { IfOk result (λ keys. keys.items ≡ list.now) }
+{
     let mut keys = Vec::with_capacity(alloc, list.len())?;
     for name in list.names() {
         keys.push(keys_of(alloc, name.as_str())?)?;
@@ -101,7 +116,10 @@ fn hosted_rooms(
     own: &str,
     rooms: &[RoomSetup],
     keys: &[StandIn],
-) -> Result<Vec<Hosted>, SimFault> {
+) -> Result<Vec<Hosted>, SimFault>
+    ensures count { IfOk result (λ hosted. length hosted.items ≡ length rooms.now) }
+    ensures each { IfOk result (λ hosted. (k : ℕ) (h : HostedState) → slice_get hosted.items k ≡ Some h → (setup : RoomSetup) → slice_get rooms.now k ≡ Some setup → IsBegun keys.now setup h) }
+{
     let mut hosted = Vec::with_capacity(alloc, rooms.len())?;
     for room in rooms {
         let events = started(alloc, &room.id, &room.users, keys)?;

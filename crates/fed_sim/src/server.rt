@@ -1,9 +1,13 @@
 // What a server keeps.
-ghost use Rattle.std.specs.Prelude.{◌≡◌, ◌<◌, IfOk, length};
+ghost use Rattle.std.specs.Prelude.{◌≡◌, ◌<◌, ◌≤◌, IfOk, length, map, option_map, string_bytes};
+ghost use Rattle.std.specs.List.{range_with_len};
+ghost use Rattle.fed_sim.specs.Link.{lanes_of, new_lane};
+ghost use Rattle.fed_sim.specs.NewServer.{IsNewServer};
+ghost use Rattle.fed_sim.specs.Ways.{way_to};
 
 use crate::hosted::Hosted;
 use crate::link::Link;
-use fed_dest::{List, MAX_SERVERS, ServerIndex};
+use fed_dest::{List, ServerIndex};
 use fed_event::StandIn;
 use fed_inbox::Inbox;
 use fed_journal::Journal;
@@ -23,6 +27,8 @@ pub(crate) struct Server {
 }
 
 impl Server {
+    ghost use Rattle.fed_sim.specs.ServerParts.{server_of};
+
     /// A server that has sent and taken nothing, with these rooms.
     pub(crate) fn new(
         alloc: Global,
@@ -32,6 +38,7 @@ impl Server {
         rooms: Vec<Hosted>,
     ) -> Result<Server, NoMemory>
         requires { own < length list.now }
+        ensures { IfOk result (λ s. IsNewServer list.now (map string_bytes known.now) own rooms.items (server_of s)) }
     {
         let name = list.names()[own.place()].copy(alloc)?;
         let servers = list.copy(alloc)?;
@@ -48,7 +55,9 @@ impl Server {
     }
 
     /// The way to a destination: to a listed server other than this one.
-    pub(crate) fn link(&self, dest: ServerIndex) -> Option<&Link> {
+    pub(crate) fn link(&self, dest: ServerIndex) -> Option<&Link>
+        ensures { option_map (λ link. link.now.lane) result ≡ way_to (server_of self.entry.now) dest }
+    {
         if dest == self.own {
             return None;
         }
@@ -65,16 +74,21 @@ pub(crate) fn keys_of(alloc: Global, name: &str) -> Result<StandIn, NoMemory>
 }
 
 // The ways to so many servers.
-fn links(alloc: Global, count: usize) -> Result<Vec<Link>, NoMemory> {
+fn links(alloc: Global, count: usize) -> Result<Vec<Link>, NoMemory>
+    requires { count ≤ 64 }
+    ensures { IfOk result (λ links. lanes_of links.items ≡ map new_lane (range_with_len 0 count)) }
+{
     let mut links = Vec::with_capacity(alloc, count)?;
-    for place in 0..count.min(MAX_SERVERS) {
+    for place in 0..count {
         links.push(Link::new(alloc, ServerIndex::new(place)))?;
     }
     Ok(links)
 }
 
 // Equal texts.
-fn texts(alloc: Global, texts: &[String]) -> Result<Vec<String>, NoMemory> {
+fn texts(alloc: Global, texts: &[String]) -> Result<Vec<String>, NoMemory>
+    ensures { IfOk result (λ copies. map string_bytes copies.items ≡ map string_bytes texts.now) }
+{
     let mut copies = Vec::with_capacity(alloc, texts.len())?;
     for text in texts {
         copies.push(String::from_str(alloc, text)?)?;

@@ -1,4 +1,8 @@
 // Whether a world can begin with a setup.
+ghost use Rattle.std.specs.Prelude.{IfOk};
+ghost use Rattle.std.specs.List.Sorted.{IsPermutation};
+ghost use Rattle.fed_dest.specs.ListParts.{AreInOrder};
+
 use crate::setup::{RoomSetup, SimFault};
 use fed_dest::{List, ServerName};
 use fed_event::{MAX_TEXT, domain, is_user_id};
@@ -15,7 +19,10 @@ pub(crate) enum RoomFault {
 }
 
 /// The list of these servers.
-pub(crate) fn list_of(alloc: Global, names: &[ServerName]) -> Result<List, SimFault> {
+pub(crate) fn list_of(alloc: Global, names: &[ServerName]) -> Result<List, SimFault>
+    ensures names { IfOk result (λ list. IsPermutation names.now list) }
+    ensures order { IfOk result (λ list. AreInOrder list) }
+{
     let mut copies = Vec::with_capacity(alloc, names.len())?;
     for name in names {
         copies.push(name.copy(alloc)?)?;

@@ -61,10 +61,10 @@ returns-clause-posted c =
     same_told (IsPosted c.args.server c.args.dest w) _ _ _ _ (ap Posted number)
     (one_more w c.args.self.now.packets.items c.push.new.self.items (packet.Request c.args.server c.args.dest c.in-Some.transaction.number c.in_ok-bytes.bytes)
     (request_for w c.args.server s c.args.dest c.name-name.result.now t) c.in_ok-push.ensures.items
-    (ap (request c.args.server c.args.dest c.in-Some.transaction.number) c.in_ok-bytes.ensures))
+    (ap (request c.args.server c.args.dest c.in-Some.transaction.number) c.in_ok-bytes.ensures.exact))
     (posted s c.index.result.now.lane t c.name-name.result.now
     (is_on w c.args.self.now.servers.items c.args.server c.place.result c.place.ensures.place c.index-sender.result.now c.index-sender.ensures (sym c.if-not-has_server.ensures)
     c.args.dest c.place-2.result c.place-2.ensures.place c.index.result.now c.index.ensures (sym c.if-not-has_way.ensures))
     (ap (λ (o : OutboxState). o.unanswered) (sym c.outbox-outbox.ensures) ∙ sym c.unanswered.ensures.value ∙ ap (option_map seen) c.in-Some.is)
     (ap (λ (o : OutboxState). is_due o c.args.self.now.now) (sym c.outbox-outbox.ensures) ∙ sym c.if-not-due.ensures)
-    c.name-name.ensures.text)
+    c.name-name.ensures.text c.in_ok-bytes.ensures.read_back)

@@ -1,0 +1,11 @@
+use Rattle.fed_sim.specs.Steps.{Reached}
+use Rattle.fed_sim.specs.WorldParts.{world_of}
+use Rattle.fed_sim.proofs.rounds.calm_round.Given as goal
+
+-- the steps so far
+abbrev pub invariant-loop-place : goal.invariant-loop-place
+invariant-loop-place l = Reached (world_of l.fn.world) (world_of l.world)
+
+-- the steps so far
+abbrev pub invariant-loop-place-2 : goal.invariant-loop-place-2
+invariant-loop-place-2 l = Reached (world_of l.fn.world) (world_of l.world)

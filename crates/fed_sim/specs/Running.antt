@@ -1,0 +1,50 @@
+-- What a world is after a list of steps.
+use Rattle.std.specs.Prelude.{◌≡◌, ℕ, List, [], Some, Ok, length, map, slice_get, string_bytes}
+use Rattle.std.specs.List.Sorted.{IsPermutation}
+use Rattle.fed_event.specs.Checked.{CheckedEvent}
+use Rattle.fed_room_contract.specs.Room.{empty_room}
+use Rattle.fed_room.specs.Creation.{started_of}
+use Rattle.fed_room.specs.Room.{room_of, room_rules}
+use Rattle.fed_room.specs.Start.{after_all}
+use Rattle.fed_dest.specs.ListParts.{AreInOrder}
+use Rattle.fed_sim.specs.declared.outcome.Outcome.{Outcome}
+use Rattle.fed_sim.specs.declared.setup.RoomSetup.{RoomSetup}
+use Rattle.fed_sim.specs.declared.setup.Setup.{Setup}
+use Rattle.fed_sim.specs.declared.step.Step.{Step}
+use Rattle.fed_sim.specs.Hosted.{HostedState}
+use Rattle.fed_sim.specs.NewServer.{IsNewServer}
+use Rattle.fed_sim.specs.Offering.{signer_named}
+use Rattle.fed_sim.specs.Server.{ServerState}
+use Rattle.fed_sim.specs.Steps.{Ran}
+use Rattle.fed_sim.specs.World.{WorldState}
+
+-- a room as it begins: the events that it is started with are stored, and nothing waits in front of it
+pub record IsBegun (names : List (List ℕ)) (setup : RoomSetup) (h : HostedState) : Type 0 where
+  pub events : List CheckedEvent
+  pub started : started_of signer_named names (string_bytes setup.id) (map string_bytes setup.users.items) ≡ Ok events
+  pub room_is : room_of h.room ≡ after_all room_rules empty_room events
+  pub queue_is : h.queue ≡ []
+
+-- the server at a place as it begins, with each of the rooms
+pub record IsBeginning (names known : List (List ℕ)) (setups : List RoomSetup) (place : ℕ) (s : ServerState) : Type 0 where
+  pub hosted : List HostedState
+  pub count : length hosted ≡ length setups
+  pub begun : (k : ℕ) (h : HostedState) → slice_get hosted k ≡ Some h → (setup : RoomSetup) → slice_get setups k ≡ Some setup → IsBegun names setup h
+  pub new : IsNewServer names known place hosted s
+
+-- a world that begins with a setup: the servers in the order of their names, and nothing was sent
+pub record Begins (setup : Setup) (w : WorldState) : Type 0 where
+  pub names : IsPermutation setup.servers.items w.names
+  pub order : AreInOrder w.names
+  pub known : w.known ≡ map (λ (r : RoomSetup). string_bytes r.id) setup.rooms.items
+  pub epoch : w.epoch ≡ setup.epoch
+  pub count : length w.servers ≡ length w.names
+  pub servers : (k : ℕ) (s : ServerState) → slice_get w.servers k ≡ Some s → IsBeginning w.names w.known setup.rooms.items k s
+  pub packets : w.packets ≡ []
+  pub now : w.now ≡ 0
+
+-- the world after the steps, and what was told of each
+pub record IsRun (setup : Setup) (steps : List Step) (replies : List Outcome) (new : WorldState) : Type 0 where
+  pub begin : WorldState
+  pub begins : Begins setup begin
+  pub ran : Ran begin steps replies new

@@ -1,0 +1,102 @@
+// What others see of a world.
+ghost use Rattle.std.specs.Prelude.{◌≡◌, map, option_map, slice_get};
+ghost use Rattle.fed_sim.specs.Hosted.{rooms_of};
+ghost use Rattle.fed_sim.specs.Packets.{way_from};
+ghost use Rattle.fed_sim.specs.WorldParts.{packet_of, world_of};
+
+use crate::hosted::Hosted;
+use crate::link::Link;
+use crate::outcome::Outcome;
+use crate::packet::Packet;
+use crate::world::World;
+use fed_dest::{ServerIndex, ServerName};
+use fed_inbox::Inbox;
+use fed_journal::Journal;
+use fed_outbox::Outbox;
+use fed_replies::ListStore;
+
+impl World {
+    /// The names of the servers, in the order of their bytes. A server is named by its place among them.
+    pub fn names(&self) -> &[ServerName]
+        ensures { result.now ≡ (world_of self.entry.now).names }
+    {
+        self.list.names()
+    }
+
+    /// What the steps answered, in their order.
+    pub fn replies(&self) -> &[Outcome]
+        ensures { result.now ≡ self.entry.now.replies.items }
+    {
+        self.replies.as_slice()
+    }
+
+    /// What was sent, in order: the packet of number `k` stands at `k - 1`.
+    pub fn packets(&self) -> &[Packet]
+        ensures { map packet_of result.now ≡ (world_of self.entry.now).packets }
+    {
+        self.packets.as_slice()
+    }
+
+    /// The moment.
+    pub fn now(&self) -> u64
+        ensures { result ≡ (world_of self.entry.now).now }
+    {
+        self.now
+    }
+
+    /// The rooms of a server, in the order of the setup; `None` where it is not listed.
+    pub fn rooms(&self, server: ServerIndex) -> Option<&[Hosted]>
+        ensures { option_map (λ rooms. rooms_of rooms.now) result ≡ option_map (λ s. s.rooms) (slice_get (world_of self.entry.now).servers server) }
+    {
+        Some(self.servers.get(server.place())?.rooms.as_slice())
+    }
+
+    /// The journal of a server; `None` where it is not listed.
+    pub fn journal(&self, server: ServerIndex) -> Option<&Journal>
+        ensures { option_map (λ journal. journal.now.entries) result ≡ option_map (λ s. s.journal) (slice_get (world_of self.entry.now).servers server) }
+    {
+        Some(&self.servers.get(server.place())?.journal)
+    }
+
+    /// The outbox of a server for a destination; `None` where one of them is not listed or both are the same.
+    pub fn outbox(&self, server: ServerIndex, dest: ServerIndex) -> Option<&Outbox>
+        ensures { option_map (λ outbox. outbox.now) result ≡ option_map (λ lane. lane.outbox) (way_from (world_of self.entry.now) server dest) }
+    {
+        Some(self.servers.get(server.place())?.link(dest)?.outbox())
+    }
+
+    /// The inbox of a server; `None` where it is not listed.
+    pub fn inbox(&self, server: ServerIndex) -> Option<&Inbox<ListStore>>
+        ensures { option_map (λ inbox. inbox.now.state) result ≡ option_map (λ s. s.inbox) (slice_get (world_of self.entry.now).servers server) }
+    {
+        Some(&self.servers.get(server.place())?.inbox)
+    }
+
+    /// How many parcels of a server wait for a destination.
+    pub(crate) fn queued(&self, server: ServerIndex, dest: ServerIndex) -> usize {
+        match self.link(server, dest) {
+            Some(link) => link.queued(),
+            None => 0,
+        }
+    }
+
+    /// How many events wait at a server in front of the room at this place.
+    pub(crate) fn queued_at(&self, server: ServerIndex, place: usize) -> usize {
+        match self.rooms(server) {
+            Some(rooms) => rooms.get(place).map_or(0, |hosted| hosted.queued()),
+            None => 0,
+        }
+    }
+
+    /// When the unanswered transaction of a server for a destination is due.
+    pub(crate) fn due_at(&self, server: ServerIndex, dest: ServerIndex) -> Option<u64> {
+        let outbox = self.outbox(server, dest)?;
+        outbox.unanswered()?;
+        Some(outbox.due_at())
+    }
+
+    // The way from a server to a destination.
+    fn link(&self, server: ServerIndex, dest: ServerIndex) -> Option<&Link> {
+        self.servers.get(server.place())?.link(dest)
+    }
+}
