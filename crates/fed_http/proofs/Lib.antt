@@ -21,7 +21,7 @@ mod Settled
 mod Feeds
 mod HeadLemmas
 mod ChunkLemmas
-mod TextLemmas
+pub mod TextLemmas
 mod Cutting
 pub mod WrittenHeaders
 pub mod SignedTexts

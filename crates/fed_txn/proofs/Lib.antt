@@ -3,5 +3,5 @@ pub mod Poured
 pub mod Replies
 pub mod Bodies
 mod BodyText
-mod SentBodies
+pub mod SentBodies
 pub mod RepliesRead
