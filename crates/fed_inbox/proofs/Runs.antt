@@ -31,7 +31,7 @@ not_both o reply none some = no_some reply (sym none ∙ some)
 one_reply : (a b : List ℕ) → Some a ≡ Some b → a ≡ b
 one_reply a b e = cc
 
-not_refused : (refusal : Refusal) → (refused refusal).status ≡ 200 → ⊥
+pub not_refused : (refusal : Refusal) → (refused refusal).status ≡ 200 → ⊥
 not_refused NoSuchPath e = absurd (omega arith)
 not_refused MethodNotAllowed e = absurd (omega arith)
 not_refused BadAuthorization e = absurd (omega arith)
@@ -47,10 +47,10 @@ not_refused TooManyPdus e = absurd (omega arith)
 not_refused TooManyEdus e = absurd (omega arith)
 not_refused OutOfMemory e = absurd (omega arith)
 
-get-insert_same : (m : TextMap (List ℕ)) (k v : List ℕ) → finite.get (finite.insert m k v) k ≡ Some v
+pub get-insert_same : (m : TextMap (List ℕ)) (k v : List ℕ) → finite.get (finite.insert m k v) k ≡ Some v
 get-insert_same m k v = finite.get-insert nat_list_cmp_total m k v k ∙ ap (λ b. cond b (Some v) (finite.get m k)) (is_eq-slice_cmp k k ∙ (bytes_eq-Decides k k).1 refl)
 
-get-insert_other : (m : TextMap (List ℕ)) (k v q : List ℕ) → q ≢ k → finite.get (finite.insert m k v) q ≡ finite.get m q
+pub get-insert_other : (m : TextMap (List ℕ)) (k v q : List ℕ) → q ≢ k → finite.get (finite.insert m k v) q ≡ finite.get m q
 get-insert_other m k v q apart = finite.get-insert nat_list_cmp_total m k v q ∙ ap (λ b. cond b (Some v) (finite.get m q)) (is_eq-slice_cmp q k ∙ by (cases_Bool (bytes_eq q k)))
   where
     by : (bytes_eq q k ≡ true) ⊎ (bytes_eq q k ≡ false) → bytes_eq q k ≡ false
