@@ -19,3 +19,4 @@ pub mod Showing
 pub mod Steps
 pub mod Running
 pub mod NewServer
+pub mod Headline

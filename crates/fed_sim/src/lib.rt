@@ -20,12 +20,14 @@
 //! - `making`: its steps
 //! - `rounds`: rounds in which nothing is lost
 //! - `running`: `run`, a world after a list of steps
+//! - `laws`: what holds of every run
 //! - `script`: `read_script`, the steps that a text names
 #![tactic(auto)]
 
 mod arriving;
 mod entering;
 mod hosted;
+mod laws;
 mod link;
 mod making;
 mod messages;
@@ -46,6 +48,7 @@ mod ways;
 mod world;
 
 pub use hosted::Hosted;
+pub use laws::runs_deliver;
 pub use outcome::{Collected, EduRefusal, Outcome, SendRefusal};
 pub use packet::Packet;
 pub use rounds::calm;

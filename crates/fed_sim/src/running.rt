@@ -2,12 +2,14 @@
 ghost use Rattle.std.specs.Prelude.{◌≡◌, ℕ, Some, IfOk, length, map, slice_get, string_bytes};
 ghost use Rattle.fed_sim.specs.declared.server.Server.{Server};
 ghost use Rattle.fed_sim.specs.declared.setup.RoomSetup.{RoomSetup};
+ghost use Rattle.fed_sim.specs.Headline.{Headline};
 ghost use Rattle.fed_sim.specs.Hosted.{HostedState};
-ghost use Rattle.fed_sim.specs.Running.{Begins, IsBeginning, IsBegun, IsRun};
+ghost use Rattle.fed_sim.specs.Running.{Begins, IsBeginning, IsBegun};
 ghost use Rattle.fed_sim.specs.ServerParts.{server_of};
 ghost use Rattle.fed_sim.specs.WorldParts.{world_of};
 
 use crate::hosted::Hosted;
+use crate::laws::runs_deliver;
 use crate::server::{Server, keys_of};
 use crate::setup::{RoomSetup, Setup, SimFault};
 use crate::setup_check::{list_of, room_fault};
@@ -21,12 +23,18 @@ use std::alloc::Global;
 
 /// The world that begins with a setup, after these steps. A step that is refused stands as refused among the `replies`.
 ///
+/// What a server of that world took of another one is a prefix, in order and each once, of what that one addressed to it; what counts as
+/// delivered was taken. A request that reaches its server on the way there is taken whole, where its transaction was not answered with 200
+/// before, and else gets that answer again; or memory runs out, it is answered with 500, and nothing is taken. Each event of a journal was
+/// offered to just the servers that are joined in the state before it (Matrix, Server-Server API, "Transactions", "PDUs").
+///
 /// # Errors
 ///
 /// `BadSetup` where no world begins with the setup; `Memory` where memory for its beginning ran out.
 pub fn run(alloc: Global, setup: &Setup, steps: &[Step]) -> Result<World, SimFault>
-    ensures { IfOk result (λ world. IsRun setup.now steps.now world.replies.items (world_of world)) }
+    ensures { IfOk result (λ world. Headline setup.now steps.now world.replies.items (world_of world)) }
 {
+    runs_deliver();
     let mut world = begin(alloc, setup)?;
     let mut replies = Vec::with_capacity(alloc, steps.len())?;
     for step in steps {

@@ -3,6 +3,7 @@ use Rattle.std.proofs.lemmas.List.{take_more, take_all, length-append}
 use Rattle.fed_sim.specs.declared.outcome.Outcome.{Outcome}
 use Rattle.fed_sim.specs.declared.step.Step.{Step}
 use Rattle.fed_sim.specs.Steps.{Makes, Ran, begun, next}
+use Rattle.fed_sim.specs.Running.{IsRun}
 use Rattle.fed_sim.specs.WorldParts.{world_of}
 use Rattle.fed_sim.proofs.Packets.{if_ok}
 use Rattle.fed_sim.proofs.running.run.Goals as goal
@@ -33,9 +34,11 @@ loop-step-preserved c =
     )
 
 pub returns : goal.returns
-returns c = record {
-  begin = world_of c.in_ok-world.world;
-  begins = c.in_ok-world.ensures;
-  ran = subst (λ (ss : List Step). Ran (world_of c.in_ok-world.world) ss c.loop-step.replies.items (world_of c.loop-step.world)) (take_all c.loop-step.step-index c.args.steps.now c.loop-step-test.false)
-      c.loop-step.invariant.2;
-}
+returns c =
+    let is : IsRun c.args.setup.now c.args.steps.now c.loop-step.replies.items (world_of c.loop-step.world) = record {
+      begin = world_of c.in_ok-world.world;
+      begins = c.in_ok-world.ensures;
+      ran = subst (λ (ss : List Step). Ran (world_of c.in_ok-world.world) ss c.loop-step.replies.items (world_of c.loop-step.world)) (take_all c.loop-step.step-index c.args.steps.now c.loop-step-test.false)
+          c.loop-step.invariant.2;
+    } in
+    c.runs_deliver.ensures c.args.setup.now c.args.steps.now c.loop-step.replies.items (world_of c.loop-step.world) is

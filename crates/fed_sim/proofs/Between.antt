@@ -1,0 +1,199 @@
+-- What is so of every world, and of each two servers of it: what changes at one server leaves it so.
+use Rattle.std.proofs.Common.{◌≡◌, ◌≢◌, ℕ, zero, suc, ◌≤◌, ◌<◌, ◌==◌, ◌&&◌, not, nat_lt, Bool, true, false, cond, if◌then◌else◌, List, [], ◌∷◌, length, Option, Some, None, refl, sym, ap, subst, ◌∙◌, ◌⊎◌, inl, inr, arith}
+use Rattle.std.specs.Prelude.{slice_get, set}
+use Rattle.std.proofs.lemmas.Bool.{eq-eqb, eqb-true, true≢false}
+use Rattle.std.proofs.lemmas.List.{length-set}
+use Rattle.fed_dest.specs.ServerName.{IsServerName}
+use Rattle.fed_inbox.specs.Log.{LogState}
+use Rattle.fed_inbox.specs.Inbox.{log_at}
+use Rattle.fed_outbox.specs.Collecting.{Lane}
+use Rattle.fed_sim.specs.Server.{ServerState}
+use Rattle.fed_sim.specs.Packets.{packet_at}
+use Rattle.fed_sim.specs.Ways.{has_way, way_to, with_way}
+use Rattle.fed_sim.specs.World.{PacketState, request, WorldState, with_server, max_moment}
+pub use Rattle.fed_sim.proofs.Landing.{same_some, not_none}
+use Rattle.fed_sim.proofs.LaneMoves.{IsHeld}
+
+-- ---- places of a list
+
+-- what stands at a place of a list with another element at p
+pub set_or_other : {A : Type 0} (xs : List A) (p : ℕ) (y : A) (k : ℕ) (x : A) → slice_get (set xs p y) k ≡ Some x → ((k ≡ p) × (y ≡ x)) ⊎ ((k ≢ p) × (slice_get xs k ≡ Some x))
+set_or_other [] p y k x e = absurd (not_none x e)
+set_or_other (z ∷ xs) zero y zero x e = inl (refl, same_some y x e)
+set_or_other (z ∷ xs) zero y (suc k) x e = inr ((λ same. absurd (omega (arith, same))), e)
+set_or_other (z ∷ xs) (suc p) y zero x e = inr ((λ same. absurd (omega (arith, same))), e)
+set_or_other (z ∷ xs) (suc p) y (suc k) x e = by (set_or_other xs p y k x e)
+  where
+    by : ((k ≡ p) × (y ≡ x)) ⊎ ((k ≢ p) × (slice_get xs k ≡ Some x)) → ((suc k ≡ suc p) × (y ≡ x)) ⊎ ((suc k ≢ suc p) × (slice_get xs k ≡ Some x))
+    by (inl (here, is)) = inl (ap suc here, is)
+    by (inr (elsewhere, is)) = inr ((λ same. elsewhere (omega (arith, same))), is)
+
+pub set_same : {A : Type 0} (xs : List A) (p : ℕ) (x : A) → slice_get xs p ≡ Some x → set xs p x ≡ xs
+set_same [] p x e = refl
+set_same (z ∷ xs) zero x e = ap (λ y. y ∷ xs) (sym (same_some z x e))
+set_same (z ∷ xs) (suc p) x e = ap (λ ys. z ∷ ys) (set_same xs p x e)
+
+-- ---- a world
+
+pub record IsServerAt (names : List (List ℕ)) (count k : ℕ) (s : ServerState) : Type 0 where
+  pub own : s.own ≡ k
+  pub name_is : slice_get names k ≡ Some s.name
+  pub named : IsServerName s.name
+  pub inbox_own : s.inbox.own ≡ s.name
+  pub lanes : length s.lanes ≡ count
+
+pub record IsWay (count server dest : ℕ) : Type 0 where
+  pub from : server < count
+  pub to : dest < count
+  pub apart : dest ≢ server
+
+pub record IsBetween (o d epoch : ℕ) (os ds : ServerState) (lane : Lane) (packets : List PacketState) : Type 0 where
+  pub log : LogState
+  pub log_is : log_at os.name ds.inbox.logs ≡ Some log
+  pub held : IsHeld o d epoch os.name ds.name os.journal lane log packets
+
+pub record IsSound (w : WorldState) : Type 0 where
+  pub distinct : (i j : ℕ) (x : List ℕ) → slice_get w.names i ≡ Some x → slice_get w.names j ≡ Some x → i ≡ j
+  pub moment : w.now ≤ max_moment
+  pub servers : (k : ℕ) (s : ServerState) → slice_get w.servers k ≡ Some s → IsServerAt w.names (length w.servers) k s
+  pub ways : (k server dest n : ℕ) (bytes : List ℕ) → packet_at w.packets k ≡ Some (request server dest n bytes) → IsWay (length w.servers) server dest
+  pub pairs : (o d : ℕ) (os ds : ServerState) (lane : Lane) → slice_get w.servers o ≡ Some os → slice_get w.servers d ≡ Some ds → way_to os d ≡ Some lane
+      → IsBetween o d w.epoch os ds lane w.packets
+
+-- ---- ways
+
+way_test : (b : Bool) (found : Option Lane) (lane : Lane) → cond b found None ≡ Some lane → (b ≡ true) × (found ≡ Some lane)
+way_test true found lane e = (refl, e)
+way_test false found lane e = absurd (not_none lane e)
+
+both_true : (a b : Bool) → (a && b) ≡ true → (a ≡ true) × (b ≡ true)
+both_true true b h = (refl, h)
+both_true false b h = absurd (true≢false (sym h))
+
+pub record WayTo (s : ServerState) (d : ℕ) (lane : Lane) : Type 0 where
+  pub apart : d ≢ s.own
+  pub within : nat_lt d (length s.lanes) ≡ true
+  pub is : slice_get s.lanes d ≡ Some lane
+
+pub way_there : (s : ServerState) (d : ℕ) (lane : Lane) → way_to s d ≡ Some lane → WayTo s d lane
+way_there s d lane e =
+    let test = way_test (has_way s d) (slice_get s.lanes d) lane e in
+    let both = both_true (not (d == s.own)) (nat_lt d (length s.lanes)) test.0 in
+    record { apart = λ same. differs (d == s.own) (eq-eqb d s.own same) both.0; within = both.1; is = test.1 }
+  where
+    differs : (b : Bool) → b ≡ true → not b ≡ true → ⊥
+    differs true is other = true≢false (sym other)
+    differs false is other = true≢false (sym is)
+
+pub there_way : (s : ServerState) (d : ℕ) (lane : Lane) → WayTo s d lane → way_to s d ≡ Some lane
+there_way s d lane way = by (d == s.own) refl
+  where
+    by : (b : Bool) → (d == s.own) ≡ b → (if not b && nat_lt d (length s.lanes) then slice_get s.lanes d else None) ≡ Some lane
+    by true is = absurd (way.apart (eqb-true d s.own is))
+    by false is = ap (λ b. if b then slice_get s.lanes d else None) way.within ∙ way.is
+
+-- ---- one server is another
+
+module _ (w : WorldState) (p : ℕ) (before : ServerState) (at : slice_get w.servers p ≡ Some before) (h : IsSound w) where
+  pub record Stays (after : ServerState) : Type 0 where
+    pub own : after.own ≡ before.own
+    pub name : after.name ≡ before.name
+    pub inbox : after.inbox ≡ before.inbox
+    pub lanes : length after.lanes ≡ length before.lanes
+
+  pub changed : (after : ServerState) → Stays after
+      → ((d : ℕ) (ds : ServerState) (lane : Lane) → slice_get w.servers d ≡ Some ds → way_to after d ≡ Some lane → IsBetween p d w.epoch after ds lane w.packets)
+      → IsSound (with_server w p after)
+  changed after stays from = record {
+    distinct = h.distinct;
+    moment = h.moment;
+    servers = λ k s e. server k s (set_or_other w.servers p after k s e);
+    ways = λ k server dest n bytes e. counted server dest (h.ways k server dest n bytes e);
+    pairs = λ o d os ds lane eo ed way. pair o d os ds lane (set_or_other w.servers p after o os eo) (set_or_other w.servers p after d ds ed) way;
+  }
+    where
+      count : length (set w.servers p after) ≡ length w.servers
+      count = length-set w.servers p after
+
+      old : IsServerAt w.names (length w.servers) p before
+      old = h.servers p before at
+
+      now : IsServerAt w.names (length w.servers) p after
+      now = record {
+        own = stays.own ∙ old.own;
+        name_is = old.name_is ∙ ap Some (sym stays.name);
+        named = subst IsServerName (sym stays.name) old.named;
+        inbox_own = ap (λ i. i.own) stays.inbox ∙ old.inbox_own ∙ sym stays.name;
+        lanes = stays.lanes ∙ old.lanes;
+      }
+
+      server : (k : ℕ) (s : ServerState) → ((k ≡ p) × (after ≡ s)) ⊎ ((k ≢ p) × (slice_get w.servers k ≡ Some s)) → IsServerAt w.names (length (set w.servers p after)) k s
+      server k s (inl (here, is)) = subst (λ n. IsServerAt w.names n k s) (sym count) (subst (λ x. IsServerAt w.names (length w.servers) x s) (sym here) (subst (IsServerAt w.names (length w.servers) p) is now))
+      server k s (inr (elsewhere, is)) = subst (λ n. IsServerAt w.names n k s) (sym count) (h.servers k s is)
+
+      counted : (a b : ℕ) → IsWay (length w.servers) a b → IsWay (length (set w.servers p after)) a b
+      counted a b way = subst (λ n. IsWay n a b) (sym count) way
+
+      receives : (o : ℕ) (os : ServerState) (lane : Lane) → IsBetween o p w.epoch os before lane w.packets → IsBetween o p w.epoch os after lane w.packets
+      receives o os lane b = record {
+        log = b.log;
+        log_is = ap (λ i. log_at os.name i.logs) stays.inbox ∙ b.log_is;
+        held = subst (λ x. IsHeld o p w.epoch os.name x os.journal lane b.log w.packets) (sym stays.name) b.held;
+      }
+
+      pair : (o d : ℕ) (os ds : ServerState) (lane : Lane) → ((o ≡ p) × (after ≡ os)) ⊎ ((o ≢ p) × (slice_get w.servers o ≡ Some os)) → ((d ≡ p) × (after ≡ ds)) ⊎ ((d ≢ p) × (slice_get w.servers d ≡ Some ds))
+          → way_to os d ≡ Some lane → IsBetween o d w.epoch os ds lane w.packets
+      pair o d os ds lane (inl (here, is)) (inl (there, is_too)) way =
+          absurd ((way_there os d lane way).apart (there ∙ sym (ap (λ s. s.own) (sym is) ∙ now.own)))
+      pair o d os ds lane (inl (here, is)) (inr (elsewhere, to)) way =
+          subst (λ x. IsBetween x d w.epoch os ds lane w.packets) (sym here)
+          (subst (λ s. IsBetween p d w.epoch s ds lane w.packets) is (from d ds lane to (ap (λ s. way_to s d) is ∙ way)))
+      pair o d os ds lane (inr (elsewhere, of)) (inl (there, is)) way =
+          subst (λ x. IsBetween o x w.epoch os ds lane w.packets) (sym there)
+          (subst (λ s. IsBetween o p w.epoch os s lane w.packets) is (receives o os lane (h.pairs o p os before lane of at (ap (λ x. way_to os x) (sym there) ∙ way))))
+      pair o d os ds lane (inr (elsewhere, of)) (inr (elsewhere_too, to)) way = h.pairs o d os ds lane of to way
+
+  -- nothing that counts here has changed
+  pub changed_elsewhere : (after : ServerState) → Stays after → after.journal ≡ before.journal → after.lanes ≡ before.lanes → IsSound (with_server w p after)
+  changed_elsewhere after stays journal lanes = changed after stays (λ d ds lane to way. again d ds lane (h.pairs p d before ds lane at to (same_way d lane way)))
+    where
+      same_way : (d : ℕ) (lane : Lane) → way_to after d ≡ Some lane → way_to before d ≡ Some lane
+      same_way d lane way =
+          let is = way_there after d lane way in
+          there_way before d lane (record { apart = λ e. is.apart (e ∙ sym stays.own); within = ap (λ l. nat_lt d (length l)) (sym lanes) ∙ is.within; is = ap (λ l. slice_get l d) (sym lanes) ∙ is.is })
+
+      again : (d : ℕ) (ds : ServerState) (lane : Lane) → IsBetween p d w.epoch before ds lane w.packets → IsBetween p d w.epoch after ds lane w.packets
+      again d ds lane b = record {
+        log = b.log;
+        log_is = ap (λ x. log_at x ds.inbox.logs) stays.name ∙ b.log_is;
+        held = subst (λ x. IsHeld p d w.epoch x ds.name after.journal lane b.log w.packets) (sym stays.name) (subst (λ j. IsHeld p d w.epoch before.name ds.name j lane b.log w.packets) (sym journal) b.held);
+      }
+
+  -- one of its ways is another
+  pub way_changed : (d : ℕ) (old new : Lane) → way_to before d ≡ Some old
+      → ((ds : ServerState) → slice_get w.servers d ≡ Some ds → (log : LogState) → log_at before.name ds.inbox.logs ≡ Some log → IsHeld p d w.epoch before.name ds.name before.journal old log w.packets
+      → IsHeld p d w.epoch before.name ds.name before.journal new log w.packets)
+      → IsSound (with_server w p (with_way before d new))
+  way_changed d old new there moves = changed (with_way before d new) stays (λ x ds lane to way. by x ds lane to (way_there (with_way before d new) x lane way) (which x ds lane (way_there (with_way before d new) x lane way)))
+    where
+      stays : Stays (with_way before d new)
+      stays = record { own = refl; name = refl; inbox = refl; lanes = length-set before.lanes d new }
+
+      which : (x : ℕ) (ds : ServerState) (lane : Lane) → WayTo (with_way before d new) x lane → ((x ≡ d) × (new ≡ lane)) ⊎ ((x ≢ d) × (slice_get before.lanes x ≡ Some lane))
+      which x ds lane way = set_or_other before.lanes d new x lane way.is
+
+      moved : (ds : ServerState) → slice_get w.servers d ≡ Some ds → IsBetween p d w.epoch before ds old w.packets → IsBetween p d w.epoch (with_way before d new) ds new w.packets
+      moved ds to b = record { log = b.log; log_is = b.log_is; held = moves ds to b.log b.log_is b.held }
+
+      kept : (x : ℕ) (ds : ServerState) (lane : Lane) → IsBetween p x w.epoch before ds lane w.packets → IsBetween p x w.epoch (with_way before d new) ds lane w.packets
+      kept x ds lane b = record { log = b.log; log_is = b.log_is; held = b.held }
+
+      by : (x : ℕ) (ds : ServerState) (lane : Lane) → slice_get w.servers x ≡ Some ds → WayTo (with_way before d new) x lane
+          → ((x ≡ d) × (new ≡ lane)) ⊎ ((x ≢ d) × (slice_get before.lanes x ≡ Some lane)) → IsBetween p x w.epoch (with_way before d new) ds lane w.packets
+      by x ds lane to way (inl (here, is)) =
+          subst (λ l. IsBetween p x w.epoch (with_way before d new) ds l w.packets) is
+          (subst (λ y. IsBetween p y w.epoch (with_way before d new) ds new w.packets) (sym here)
+          (moved ds (ap (slice_get w.servers) (sym here) ∙ to) (h.pairs p d before ds old at (ap (slice_get w.servers) (sym here) ∙ to) there)))
+      by x ds lane to way (inr (elsewhere, is)) =
+          kept x ds lane (h.pairs p x before ds lane at to
+          (there_way before x lane (record { apart = way.apart; within = ap (λ n. nat_lt x n) (sym (length-set before.lanes d new)) ∙ way.within; is = is })))
