@@ -1,4 +1,7 @@
 // A script in, what its commands answered out.
+ghost use Rattle.std.specs.Prelude.{◌≤◌, ◌*◌, length, OnOk, IfSome};
+ghost use Rattle.fed_app.specs.Input.{left_of, room_of};
+
 use crate::input::Input;
 use crate::lines::{MAX_READS, write_whole};
 use crate::sim_fault::SimRunFault;
@@ -20,7 +23,9 @@ pub fn sim_run<R: Read + Drop, W: Write>(
     alloc: Global,
     reader: R,
     writer: &mut W,
-) -> Result<(), SimRunFault> {
+) -> Result<(), SimRunFault>
+    ensures limit { OnOk result (IfSome (R.remaining reader) (λ input. length input ≤ MAX_READS * 65536)) }
+{
     let text = whole_text(alloc, reader)?;
     let (setup, steps) = read_script(alloc, &text)?;
     let world = fed_sim::run(alloc, &setup, &steps)?;
@@ -31,8 +36,17 @@ pub fn sim_run<R: Read + Drop, W: Write>(
 }
 
 // All lines of a reader, each with its newline.
-fn whole_text<R: Read + Drop>(alloc: Global, reader: R) -> io::Result<Vec<u8>> {
+fn whole_text<R: Read + Drop>(alloc: Global, reader: R) -> io::Result<Vec<u8>>
+    ensures limit { OnOk result (IfSome (R.remaining reader) (λ input. length input ≤ MAX_READS * 65536)) }
+{
     let mut input = Input::new(alloc, reader, MAX_READS)?;
+    rest_of(alloc, &mut input)
+}
+
+// All lines of an input, each with its newline.
+fn rest_of<R: Read>(alloc: Global, input: &mut Input<R>) -> io::Result<Vec<u8>>
+    ensures limit { OnOk result (IfSome (left_of R.remaining input.old) (λ bytes. length bytes ≤ room_of input.old)) }
+{
     let mut text = Vec::new(alloc);
     let mut line = Vec::new(alloc);
     while input.read_line(&mut line)? {
