@@ -2,3 +2,4 @@ mod Names
 pub mod Halving
 mod Lists
 mod Joinings
+pub mod Stays

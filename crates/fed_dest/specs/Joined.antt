@@ -1,8 +1,9 @@
 -- The servers that are joined in a room (Matrix, Server-Server API, "PDUs": an event is sent to the other servers that are joined in the
 -- room), by its state: those of the users whose membership is `join` (Client-Server API, "m.room.member").
-use Rattle.std.specs.Prelude.{ℕ, List, ◌==◌, ◌&&◌, Bool, not, Option, codes, bytes_eq, slice_get, option_and_then}
+use Rattle.std.specs.Prelude.{◌≡◌, ℕ, List, ◌==◌, ◌&&◌, Bool, not, Option, codes, bytes_eq, slice_get, option_and_then}
 use Rattle.std.specs.FinMap as finite
 use Rattle.std.specs.List.{list_any}
+use Rattle.std.specs.List.Sorted.{IsStrictlyIncreasing}
 use Rattle.serde_json.specs.Data.{Data}
 use Rattle.serde_json.specs.Find.{as_str, get}
 use Rattle.fed_event.specs.Ids.{domain_of}
@@ -11,6 +12,7 @@ use Rattle.fed_event.specs.Tests.{holds}
 use Rattle.fed_room_contract.specs.declared.graph.Stored.{Stored}
 use Rattle.fed_room_contract.specs.Graph.{stored_at}
 use Rattle.fed_room_contract.specs.State.{StateKey, StateMap}
+use Rattle.fed_dest.specs.ServerSet.{is_among}
 
 -- the membership in the event's content, where it is a text
 abbrev pub membership_of : Data → Option (List ℕ)
@@ -38,3 +40,8 @@ is_joined_place events state servers place = holds (is_joined events state) (sli
 -- another one than the own server does
 abbrev pub is_destination : List Stored → StateMap → List (List ℕ) → ℕ → ℕ → Bool
 is_destination events state servers own place = not (place == own) && is_joined_place events state servers place
+
+-- the places of the servers that an event goes to, by the stored events and the state before it: each once, in order
+pub record AreDestinations (events : List Stored) (before : StateMap) (servers : List (List ℕ)) (own : ℕ) (dests : List ℕ) : Type 0 where
+  pub rising : IsStrictlyIncreasing dests
+  pub each : (d : ℕ) → is_among dests d ≡ is_destination events before servers own d

@@ -16,7 +16,7 @@ mod server_name;
 mod server_set;
 
 pub use joined::{destinations, joined_servers};
-pub use laws::what_destinations_are;
+pub use laws::{destinations_stay, what_destinations_are};
 pub use list::{List, ListFault};
 pub use server_index::{MAX_SERVERS, ServerIndex};
 pub use server_name::{NameFault, ServerName};
