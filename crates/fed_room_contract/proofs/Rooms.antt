@@ -1,5 +1,5 @@
 -- Rooms that grow.
-use Rattle.std.proofs.Common.{◌≡◌, ℕ, zero, suc, ◌<◌, ◌≤◌, List, [], ◌∷◌, ◌++◌, append_assoc, length, replicate, Bool, true, false, not, cond, if◌then◌else◌, Option, None, Some, is_some, option_map, refl, sym, ap, ◌∙◌, subst, arith, length-append}
+use Rattle.std.proofs.Common.{◌≡◌, ℕ, zero, suc, ◌<◌, ◌≤◌, List, [], ◌∷◌, ◌++◌, append_assoc, length, replicate, Bool, true, false, not, cond, if◌then◌else◌, Option, None, Some, is_some, option_map, refl, sym, ap, ◌∙◌, subst, arith, length-append, ◌+◌}
 use Rattle.std.proofs.lemmas.List.{append-nil}
 use Rattle.std.proofs.lemmas.Slice.Eq.{bytes_eq-Decides}
 use Rattle.std.specs.List.{find}
@@ -9,9 +9,11 @@ use Rattle.fed_room_contract.specs.declared.verdict.Verdict.TheVariants.{Accepte
 use Rattle.fed_room_contract.specs.declared.receipt.Receipt.{Receipt}
 use Rattle.fed_room_contract.specs.declared.receipt.Receipt.TheVariants as receipt
 use Rattle.fed_room_contract.specs.declared.graph.Stored.{Stored}
+use Rattle.fed_room_contract.specs.declared.input.Input.{Input}
+use Rattle.fed_room_contract.specs.declared.input.Input.TheVariants.{Receive, Advance, Commit}
 use Rattle.fed_room_contract.specs.Graph.{IsGraph, has_id, is_stored, is_ready, stored_at}
 use Rattle.fed_room_contract.specs.Room.{RoomState, Rules, event_id, is_of_id, without, with_stored, receipt_of, after_receipt, first_ready, with_ready, advanced, committed}
-use Rattle.fed_room_contract.specs.Runs.{Input, receive, advance, commit, after_input, room_after, IsAdvanced}
+use Rattle.fed_room_contract.specs.Runs.{after_input, room_after, IsAdvanced}
 use Rattle.fed_room_contract.proofs.Graphs.{ready_stays}
 
 abbrev pub Grows : RoomState → RoomState → Type 0
@@ -37,9 +39,9 @@ committed_grows : (room : RoomState) (event : CheckedEvent) → Grows room (comm
 committed_grows room event = elim (is_stored room.stored (event_id event)) as (λ b. Grows room (if b then room else with_stored room event Accepted)) [ true ↦ same room | false ↦ stored_one room event Accepted ]
 
 input_grows : (rules : Rules) (room : RoomState) (input : Input) → Grows room (after_input rules room input)
-input_grows rules room (receive event) = after_receipt_grows room event (receipt_of rules room event)
-input_grows rules room advance = with_ready_grows rules room (first_ready room)
-input_grows rules room (commit event) = committed_grows room event
+input_grows rules room (Receive event) = after_receipt_grows room event (receipt_of rules room event)
+input_grows rules room Advance = with_ready_grows rules room (first_ready room)
+input_grows rules room (Commit event) = committed_grows room event
 
 pub room_grows : (rules : Rules) (room : RoomState) (inputs : List Input) → Grows room (room_after rules room inputs)
 room_grows rules room [] = same room
@@ -100,34 +102,54 @@ advanced_waits_less rules room event h =
 
 -- ---- rooms that advance
 
-pub not_advanced : (rules : Rules) (room : RoomState) → IsAdvanced rules room room
-not_advanced rules room = record { times = 0; after = refl }
+-- a room that advanced some times
+abbrev pub HasAdvanced : Rules → RoomState → RoomState → Type 0
+HasAdvanced rules old new = (times : ℕ) × IsAdvanced rules times old new
 
-again : (rules : Rules) (n : ℕ) (room : RoomState) → advanced rules (room_after rules room (replicate n advance)) ≡ room_after rules room (replicate (suc n) advance)
+pub not_advanced : (rules : Rules) (room : RoomState) → HasAdvanced rules room room
+not_advanced rules room = (0, record { after = refl; stored = omega arith })
+
+again : (rules : Rules) (n : ℕ) (room : RoomState) → advanced rules (room_after rules room (replicate n Advance)) ≡ room_after rules room (replicate (suc n) Advance)
 again rules zero room = refl
 again rules (suc n) room = again rules n (advanced rules room)
 
-pub advances_on : (rules : Rules) (old now new : RoomState) → IsAdvanced rules old now → new ≡ advanced rules now → IsAdvanced rules old new
-advances_on rules old now new h e = record { times = suc h.times; after = e ∙ ap (advanced rules) h.after ∙ again rules h.times old }
+-- what is told of the event that is ready first tells that there is one
+ready_one : {X : Type 0} (f : CheckedEvent → X) (told : X) (room : RoomState) → Some told ≡ option_map f (first_ready room) → (event : CheckedEvent) × (first_ready room ≡ Some event)
+ready_one f told room h = by (first_ready room) refl h
+  where
+    by : (o : Option CheckedEvent) → first_ready room ≡ o → Some told ≡ option_map f o → (event : CheckedEvent) × (first_ready room ≡ Some event)
+    by (Some event) e t = (event, e)
+    by None e t = absurd (cc)
 
-none_advances : (rules : Rules) (room : RoomState) → first_ready room ≡ None → (n : ℕ) → room_after rules room (replicate n advance) ≡ room
+one_stored : (rules : Rules) (room : RoomState) (event : CheckedEvent) → first_ready room ≡ Some event → length (advanced rules room).stored ≡ length room.stored + 1
+one_stored rules room event h =
+    let last : Stored = record { event = event; verdict = rules.decide room.stored event } in
+    ap (λ (o : Option CheckedEvent). length (with_ready rules room o).stored) h ∙ length-append room.stored (last ∷ [])
+
+pub advances_on : {X : Type 0} (f : CheckedEvent → X) (told : X) (rules : Rules) (old now new : RoomState) → HasAdvanced rules old now → new ≡ advanced rules now
+    → Some told ≡ option_map f (first_ready now) → HasAdvanced rules old new
+advances_on f told rules old now new h e some =
+    let one = ready_one f told now some in
+    let more = one_stored rules now one.0 one.1 in
+    let len : length new.stored ≡ length (advanced rules now).stored = ap (λ (r : RoomState). length r.stored) e in
+    let before : length now.stored ≡ length old.stored + h.0 = h.1.stored in
+    (suc h.0, record { after = e ∙ ap (advanced rules) h.1.after ∙ again rules h.0 old; stored = omega arith })
+
+pub waits_less : {X : Type 0} (f : CheckedEvent → X) (told : X) (rules : Rules) (room new : RoomState) → new ≡ advanced rules room → Some told ≡ option_map f (first_ready room)
+    → length new.waiting < length room.waiting
+waits_less f told rules room new e some =
+    let one = ready_one f told room some in
+    subst (λ (r : RoomState). length r.waiting < length room.waiting) (sym e) (advanced_waits_less rules room one.0 one.1)
+
+none_advances : (rules : Rules) (room : RoomState) → first_ready room ≡ None → (n : ℕ) → room_after rules room (replicate n Advance) ≡ room
 none_advances rules room none zero = refl
-none_advances rules room none (suc n) = ap (λ r. room_after rules r (replicate n advance)) (ap (with_ready rules room) none) ∙ none_advances rules room none n
+none_advances rules room none (suc n) = ap (λ r. room_after rules r (replicate n Advance)) (ap (with_ready rules room) none) ∙ none_advances rules room none n
 
 -- where none is ready none becomes ready
-pub none_is_left : (rules : Rules) (old new : RoomState) → IsAdvanced rules old new → first_ready old ≡ None → is_some (first_ready new) ≡ true → false ≡ true
-none_is_left rules old new h none left = sym (ap (λ r. is_some (first_ready r)) (h.after ∙ none_advances rules old none h.times) ∙ ap is_some none) ∙ left
+pub none_is_left : (rules : Rules) (times : ℕ) (old new : RoomState) → IsAdvanced rules times old new → first_ready old ≡ None → is_some (first_ready new) ≡ true → false ≡ true
+none_is_left rules times old new h none left = sym (ap (λ r. is_some (first_ready r)) (h.after ∙ none_advances rules old none times) ∙ ap is_some none) ∙ left
 
-pub waits_less : {X : Type 0} (told : CheckedEvent → X) (rules : Rules) (room new : RoomState) → new ≡ advanced rules room → is_some (option_map told (first_ready room)) ≡ true → length new.waiting < length room.waiting
-waits_less told rules room new e h = subst (λ (r : RoomState). length r.waiting < length room.waiting) (sym e) (by (first_ready room) refl h)
-  where
-    by : (o : Option CheckedEvent) → first_ready room ≡ o → is_some (option_map told o) ≡ true → length (advanced rules room).waiting < length room.waiting
-    by (Some event) f t = advanced_waits_less rules room event f
-    by None f t = absurd (cc)
+-- ---- one more input
 
-pub advanced_grows : (rules : Rules) (old new : RoomState) → IsAdvanced rules old new → length old.stored ≤ length new.stored
-advanced_grows rules old new h =
-    let grown = room_grows rules old (replicate h.times advance) in
-    let more = length-append old.stored grown.0 in
-    let len = ap (λ (r : RoomState). length r.stored) h.after ∙ ap (λ (xs : List Stored). length xs) grown.1 in
-    omega arith
+pub one_more_input : (rules : Rules) (room : RoomState) (inputs : List Input) (input : Input) → room_after rules room (inputs ++ input ∷ []) ≡ after_input rules (room_after rules room inputs) input
+one_more_input rules room inputs input = room_after-++ rules room inputs (input ∷ [])

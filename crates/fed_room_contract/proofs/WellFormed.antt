@@ -9,9 +9,11 @@ use Rattle.fed_room_contract.specs.declared.verdict.Verdict.{Verdict}
 use Rattle.fed_room_contract.specs.declared.verdict.Verdict.TheVariants.{Accepted}
 use Rattle.fed_room_contract.specs.declared.receipt.Receipt.{Receipt}
 use Rattle.fed_room_contract.specs.declared.graph.Stored.{Stored}
+use Rattle.fed_room_contract.specs.declared.input.Input.{Input}
+use Rattle.fed_room_contract.specs.declared.input.Input.TheVariants.{Receive, Advance, Commit}
 use Rattle.fed_room_contract.specs.Graph.{is_stored, is_ready}
 use Rattle.fed_room_contract.specs.Room.{RoomState, Rules, event_id, is_of_id, is_waiting, is_known, with_stored, with_waiting, most_waiting, receipt_of, after_receipt, first_ready, with_ready, empty_room}
-use Rattle.fed_room_contract.specs.Runs.{Input, receive, advance, commit, after_input, room_after, IsRoom, IsAcceptable, MayBeGiven, AllMayBeGiven}
+use Rattle.fed_room_contract.specs.Runs.{after_input, room_after, IsRoom, IsAcceptable, MayBeGiven, AllMayBeGiven}
 use Rattle.fed_room_contract.proofs.Apart.{apart-stored, apart-waits, found_passes, found_apart}
 use Rattle.fed_room_contract.proofs.Graphs.{no_graph, graph_grows, split}
 use Rattle.fed_room_contract.proofs.Rooms.{fewer}
@@ -128,9 +130,9 @@ module _ (rules : Rules) where
   commits room event false t may h = let ok = may t in stores room event Accepted h t ok.ready (sym ok.accepted)
 
   pub input_keeps : (room : RoomState) (input : Input) → IsRoom rules room → MayBeGiven rules room input → IsRoom rules (after_input rules room input)
-  input_keeps room (receive event) h may = receives room event h
-  input_keeps room advance h may = advances room (first_ready room) refl h
-  input_keeps room (commit event) h may = commits room event (is_stored room.stored (event_id event)) refl may h
+  input_keeps room (Receive event) h may = receives room event h
+  input_keeps room Advance h may = advances room (first_ready room) refl h
+  input_keeps room (Commit event) h may = commits room event (is_stored room.stored (event_id event)) refl may h
 
   pub inputs_keep : (room : RoomState) (inputs : List Input) → IsRoom rules room → AllMayBeGiven rules room inputs → IsRoom rules (room_after rules room inputs)
   inputs_keep room [] h may = h

@@ -2,12 +2,15 @@
 ghost use Rattle.std.specs.Prelude.{◌≡◌, ◌≢◌, ℕ, List, [], ◌∷◌, ◌++◌, ◌||◌, Some, None, false, true};
 ghost use Rattle.std.specs.FinMap as finite;
 ghost use Rattle.serde_json.specs.Data.{Data};
+ghost use Rattle.fed_event.specs.Checked.{CheckedEvent};
 ghost use Rattle.fed_room_contract.specs.declared.graph.Stored.{Stored};
+ghost use Rattle.fed_room_contract.specs.declared.input.Input.{Input};
+ghost use Rattle.fed_room_contract.specs.declared.input.Input.TheVariants.{Receive, Advance, Commit};
 ghost use Rattle.fed_room_contract.specs.State.{StateMap, StateKey, entry_at, with_entry};
 ghost use Rattle.fed_room_contract.specs.Graph.{IsGraph, IsNext, id_of, has_id, stored_at, is_stored, is_ready};
 ghost use Rattle.fed_room_contract.specs.Lawful.{AreLawful};
-ghost use Rattle.fed_room_contract.specs.Room.{Rules, RoomState, empty_room};
-ghost use Rattle.fed_room_contract.specs.Runs.{Input, after_input, room_after, IsRoom, MayBeGiven, AllMayBeGiven};
+ghost use Rattle.fed_room_contract.specs.Room.{Rules, RoomState, empty_room, receipt_of, after_receipt, advanced, committed};
+ghost use Rattle.fed_room_contract.specs.Runs.{after_input, room_after, IsRoom, MayBeGiven, AllMayBeGiven};
 
 use crate::engine::RoomEngine;
 
@@ -45,6 +48,17 @@ pub fn rooms_grow()
         → (more : List Stored) × ((room_after rules room inputs).stored ≡ room.stored ++ more) }
     ensures inputs { (rules : Rules) (room : RoomState) (inputs more : List Input)
         → room_after rules room (inputs ++ more) ≡ room_after rules (room_after rules room inputs) more }
+{}
+
+/// What becomes of a room by `receive`, by `advance` and by `commit` is what becomes of it by that input; and after a list of inputs and
+/// one more it is what that one makes of the room after the list.
+pub fn calls_are_inputs()
+    ensures receive { (rules : Rules) (room : RoomState) (event : CheckedEvent)
+        → after_receipt room event (receipt_of rules room event) ≡ after_input rules room (Receive event) }
+    ensures advance { (rules : Rules) (room : RoomState) → advanced rules room ≡ after_input rules room Advance }
+    ensures commit { (rules : Rules) (room : RoomState) (event : CheckedEvent) → committed room event ≡ after_input rules room (Commit event) }
+    ensures one_more_input { (rules : Rules) (room : RoomState) (inputs : List Input) (input : Input)
+        → room_after rules room (inputs ++ input ∷ []) ≡ after_input rules (room_after rules room inputs) input }
 {}
 
 /// A new room is well formed, and what it is given leaves it so: the stored events are a graph, each with the verdict of the rules over

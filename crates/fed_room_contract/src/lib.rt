@@ -10,6 +10,7 @@
 //! - `draft`: `Draft`, what a user wants to send
 //! - `prepared`: `Prepared`, the event that a room makes of a draft
 //! - `receipt`, `refusal`: what becomes of an event, and why none is made of a draft
+//! - `input`: `Input`, what a room is given
 //! - `arrival`: what becomes of an event before there is a verdict on it
 //! - `store`: `EventStore`, the events that a room stores, lets wait and drops
 //! - `engine`: `RoomEngine`, what keeps a room
@@ -25,6 +26,7 @@ mod draft;
 mod engine;
 mod entry;
 mod graph;
+mod input;
 mod keyed;
 mod laws;
 mod places;
@@ -36,16 +38,17 @@ mod state;
 mod store;
 mod verdict;
 
-pub use advancing::advance_all;
-pub use applying::{Applied, apply};
+pub use advancing::{Halted, advance_all};
+pub use applying::{Applied, Stopped, apply};
 pub use arrival::Arrival;
 pub use draft::Draft;
 pub use engine::RoomEngine;
 pub use entry::Entry;
 pub use graph::{Graph, Stored};
+pub use input::Input;
 pub use laws::{
-    entries_of_states, graphs_grow, rooms_grow, rooms_stay_well_formed, rules_are_lawful,
-    states_before_stay, stored_events_stay,
+    calls_are_inputs, entries_of_states, graphs_grow, rooms_grow, rooms_stay_well_formed,
+    rules_are_lawful, states_before_stay, stored_events_stay,
 };
 pub use prepared::Prepared;
 pub use receipt::Receipt;
