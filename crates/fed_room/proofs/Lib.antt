@@ -6,3 +6,4 @@ pub mod AtPlaces
 pub mod Tips
 pub mod Kept
 pub mod KeysOf
+pub mod StartedRooms

@@ -15,12 +15,14 @@
 //! - `table`: `Table`, verdicts on events and the states before them
 //! - `entries`: a state of some entries
 //! - `table_room`: `TableRoom`, a room that goes by a table
+//! - `laws`: what holds of all rooms that begin with some events
 #![tactic(auto)]
 
 mod creation;
 mod decision;
 mod drafting;
 mod entries;
+mod laws;
 mod line;
 mod links;
 mod places;
@@ -34,6 +36,7 @@ mod table;
 mod table_room;
 
 pub use creation::started;
+pub use laws::a_started_room_and_its_inputs;
 pub use room::Room;
 pub use start_fault::StartFault;
 pub use started_fault::StartedFault;
