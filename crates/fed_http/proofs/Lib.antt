@@ -29,3 +29,5 @@ pub mod WrittenTexts
 pub mod Phrases
 pub mod ReplyTexts
 pub mod SentTexts
+pub mod Writes
+pub mod SentReplies

@@ -3,6 +3,7 @@ pub mod XMatrixParts
 pub mod Body
 pub mod ChunkParts
 pub mod CopyParts
+pub mod FaultReplies
 pub mod Faults
 pub mod FoundParts
 pub mod Framing
@@ -16,6 +17,7 @@ pub mod ReplyParts
 pub mod Streams
 pub mod Text
 pub mod Waiting
+pub mod Sending
 pub mod Signing
 pub mod Writing
 pub mod WrittenHeaders

@@ -2,6 +2,7 @@
 ghost use Rattle.std.specs.Prelude.{◌≡◌};
 ghost use Rattle.fed_http.specs.declared.fault.HttpFault.TheVariants.{Memory};
 
+use crate::reply::Reply;
 use fed_json::NoMemory;
 use std::alloc::AllocFailed;
 use thiserror::Error;
@@ -42,5 +43,33 @@ impl<T: Drop> From<AllocFailed<T>> for HttpFault {
 
     fn from(_error: AllocFailed<T>) -> HttpFault {
         Self::Memory
+    }
+}
+
+impl From<HttpFault> for Reply {
+    ghost use Rattle.std.specs.Prelude.{◌≡◌};
+    ghost use Rattle.fed_http.specs.FaultReplies.{reply_to};
+
+    ghost from_gives = { λ fault reply. reply ≡ reply_to fault };
+
+    /// The error reply to bytes that were not read as a request. It is made without memory.
+    fn from(fault: HttpFault) -> Reply {
+        match fault {
+            HttpFault::Memory => Reply::fixed(
+                500,
+                "{\"errcode\":\"M_UNKNOWN\",\"error\":\"out of memory\"}",
+            ),
+            HttpFault::TooLarge => Reply::fixed(
+                413,
+                "{\"errcode\":\"M_TOO_LARGE\",\"error\":\"body too large\"}",
+            ),
+            HttpFault::BadHead
+            | HttpFault::BadLength
+            | HttpFault::BadChunk
+            | HttpFault::HasFailed => Reply::fixed(
+                400,
+                "{\"errcode\":\"M_UNKNOWN\",\"error\":\"bad request\"}",
+            ),
+        }
     }
 }

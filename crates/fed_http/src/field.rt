@@ -1,6 +1,8 @@
 // A field of a message.
-ghost use Rattle.std.specs.Prelude.{◌≡◌, string_bytes};
+ghost use Rattle.std.specs.Prelude.{◌≡◌, IfOk, string_bytes};
 
+use fed_json::NoMemory;
+use std::alloc::Global;
 use std::marker::Model;
 
 /// A field of a message (RFC 9110, section 5): its name as it was sent, in any case of letters, and its value without the white space
@@ -44,5 +46,14 @@ impl Field {
         ensures { result.now ≡ self.now.1 }
     {
         self.value.as_slice()
+    }
+
+    /// An equal field.
+    pub fn copy(&self, alloc: Global) -> Result<Field, NoMemory>
+        ensures { IfOk result (λ copy. copy ≡ self.now) }
+    {
+        let name = String::from_str(alloc, self.name())?;
+        let value = Vec::from_slice(alloc, self.value())?;
+        Ok(Field { name, value })
     }
 }

@@ -8,7 +8,7 @@
 //! - `field`: `Field`, a field of a message
 //! - `request`, `reply`: `Request` and `Reply`
 //! - `message`: `Message`, either of both, and `Kind`, which of them a connection carries
-//! - `fault`: `HttpFault`, why bytes are no message
+//! - `fault`: `HttpFault`, why bytes are no message, and the reply to each
 //! - `limits`: how large a message may be
 //! - `head`: where the head of a message is
 //! - `framing`: `Framing`, how the end of a body is found
@@ -25,7 +25,8 @@
 //! - `run`: runs of characters at the front of a text
 //! - `separator`: what stands in front of parameters and between them
 //! - `signing`: the text that is signed for a request, and the request with its signature
-//! - `writing`: from messages to their bytes
+//! - `writing`: from messages to their bytes, and `phrase`, the phrase of a status
+//! - `sending`: from a reply to a writer, without memory
 //! - `x_matrix_laws`: what holds of all Authorization fields and signatures
 #![tactic(auto)]
 
@@ -47,6 +48,7 @@ mod reply;
 mod request;
 mod run;
 mod said;
+mod sending;
 mod separator;
 mod signing;
 mod writing;
@@ -65,7 +67,8 @@ pub use message::{Kind, Message};
 pub use reader::Reader;
 pub use reply::Reply;
 pub use request::Request;
+pub use sending::{send_reply, write_whole};
 pub use signing::{SignFault, is_signed, request_text, sign, sign_request, signed_request};
-pub use writing::{write_reply, write_request};
+pub use writing::{phrase, write_reply, write_request};
 pub use x_matrix::{AuthFault, XMatrix};
 pub use x_matrix_laws::{one_header, signed_requests_are_read, signed_requests_check};

@@ -1,7 +1,9 @@
 // A reply.
-ghost use Rattle.std.specs.Prelude.{◌≡◌};
+ghost use Rattle.std.specs.Prelude.{◌≡◌, IfOk};
 ghost use Rattle.fed_http.specs.Message.{Answer};
 
+use fed_json::NoMemory;
+use std::alloc::Global;
 use std::marker::Model;
 
 /// A reply (RFC 9112, section 4): a status and a body.
@@ -64,6 +66,33 @@ impl Reply {
         match &self.content {
             Content::Bytes(body) => body.as_slice(),
             Content::Fixed(body) => body.as_bytes(),
+        }
+    }
+
+    /// An equal reply. The text of a reply that `fixed` made is not copied, so that this takes no memory.
+    pub fn copy(&self, alloc: Global) -> Result<Reply, NoMemory>
+        ensures { IfOk result (λ copy. copy ≡ self.now) }
+    {
+        let content = self.content.copy(alloc)?;
+        Ok(Reply {
+            status: self.status,
+            content,
+        })
+    }
+}
+
+impl Content {
+    ghost use Rattle.std.specs.Prelude.{◌≡◌, IfOk, IsOk};
+    ghost use Rattle.fed_http.specs.ReplyParts.{IsFixed, body_of};
+
+    // Content of the same bytes.
+    fn copy(&self, alloc: Global) -> Result<Content, NoMemory>
+        ensures same { IfOk result (λ copy. body_of copy ≡ body_of self.now) }
+        ensures fixed { IsFixed self.now → IsOk result }
+    {
+        match self {
+            Content::Bytes(body) => Ok(Content::Bytes(Vec::from_slice(alloc, body)?)),
+            Content::Fixed(body) => Ok(Content::Fixed(body)),
         }
     }
 }

@@ -1,9 +1,11 @@
 // A request.
-ghost use Rattle.std.specs.Prelude.{◌≡◌, option_and_then, option_map, string_bytes};
+ghost use Rattle.std.specs.Prelude.{◌≡◌, IfOk, option_and_then, option_map, string_bytes};
 ghost use Rattle.fed_http.specs.Framing.{values_of, only_of, if_text};
 ghost use Rattle.fed_http.specs.Message.{RequestValue};
 
 use crate::field::Field;
+use fed_json::NoMemory;
+use std::alloc::Global;
 use std::marker::Model;
 
 /// A request (RFC 9112, section 3): its method, its target, its fields in order, and its body.
@@ -89,6 +91,28 @@ impl Request {
     {
         self.body.as_slice()
     }
+
+    /// An equal request.
+    pub fn copy(&self, alloc: Global) -> Result<Request, NoMemory>
+        ensures { IfOk result (λ copy. copy ≡ self.now) }
+    {
+        let method = String::from_str(alloc, self.method())?;
+        let target = String::from_str(alloc, self.target())?;
+        let fields = equal_fields(alloc, self.fields())?;
+        let body = Vec::from_slice(alloc, self.body())?;
+        Ok(Request::new(method, target, fields, body))
+    }
+}
+
+// Equal fields in the same order.
+fn equal_fields(alloc: Global, fields: &[Field]) -> Result<Vec<Field>, NoMemory>
+    ensures { IfOk result (λ copies. copies.items ≡ fields.now) }
+{
+    let mut copies = Vec::with_capacity(alloc, fields.len())?;
+    for field in fields {
+        copies.push(field.copy(alloc)?)?;
+    }
+    Ok(copies)
 }
 
 // The text that bytes are.

@@ -58,8 +58,9 @@ fn start(alloc: Global, status: u16) -> Result<Vec<u8>, NoMemory>
     Ok(text)
 }
 
-// The phrase of a status, empty where it has none.
-fn phrase(status: u16) -> &'static str
+/// The phrase of a status (RFC 9110, section 15), as `Not Found` for 404, and empty where it has none. It is the one that the crate `http`
+/// has, which for 413 is the older `Payload Too Large`. It takes no memory.
+pub fn phrase(status: u16) -> &'static str
     ensures { result.now ≡ phrase_of status }
 {
     match StatusCode::from_u16(status) {
