@@ -1,7 +1,7 @@
 -- What is addressed to a destination, and placed for it, as entries follow entries.
 use Rattle.std.proofs.Common.{arith, ◌≡◌, ℕ, zero, suc, ◌+◌, ◌≤◌, ◌==◌, Bool, true, false, not, ◌||◌, cond, if◌then◌else◌, List, [], ◌∷◌, ◌++◌, length, Option, Some, None, refl, sym, ap, ◌∙◌, length-append}
 use Rattle.std.specs.List.{slice_get, filter_map, cons_option}
-use Rattle.std.specs.Option.{option_map}
+use Rattle.std.specs.Option.{option_map, option_to_list}
 use Rattle.std.proofs.lemmas.List.{append-nil}
 use Rattle.std.proofs.lemmas.List.Sums.{take_while-cons}
 use Rattle.std.proofs.lemmas.List.Elements.{filter_map-append}
@@ -206,3 +206,14 @@ is_closed-one d entry = by (closes d entry)
     by : (b : Bool) → (b || false) ≡ b
     by true = refl
     by false = refl
+
+-- all events, and all EDUs, with those of one more entry
+picked_one : {X : Type 0} (o : Option X) → cons_option o [] ≡ option_to_list o
+picked_one None = refl
+picked_one (Some x) = refl
+
+pub all_events-more : (entries : List Entry) (entry : Entry) → events_of (entries ++ entry ∷ []) ≡ events_of entries ++ option_to_list (event_in entry)
+all_events-more entries entry = filter_map-append event_in entries (entry ∷ []) ∙ ap (λ xs. events_of entries ++ xs) (picked_one (event_in entry))
+
+pub all_edus-more : (entries : List Entry) (entry : Entry) → edus_of (entries ++ entry ∷ []) ≡ edus_of entries ++ option_to_list (edu_in entry)
+all_edus-more entries entry = filter_map-append edu_in entries (entry ∷ []) ∙ ap (λ xs. edus_of entries ++ xs) (picked_one (edu_in entry))

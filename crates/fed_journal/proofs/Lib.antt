@@ -1,4 +1,4 @@
 pub mod Lanes
 pub mod Entries
 pub mod Journals
-mod Placing
+pub mod Placing

@@ -33,6 +33,16 @@ closes d (Close dest cause) = dest == d
 abbrev pub is_closed : List Entry → ℕ → Bool
 is_closed entries d = list_any (closes d) entries
 
+-- the entry closes the outbox of d because nothing takes its parcels any more
+abbrev pub loses : ℕ → Entry → Bool
+loses d (Event event dests) = false
+loses d (Edu edu dests) = false
+loses d (Close dest Asked) = false
+loses d (Close dest Lost) = dest == d
+
+abbrev pub is_lost : List Entry → ℕ → Bool
+is_lost entries d = list_any (loses d) entries
+
 -- the entries before the first that closes the outbox of d
 abbrev pub before_close : ℕ → List Entry → List Entry
 before_close d entries = take_while (λ entry. not (closes d entry)) entries

@@ -8,3 +8,6 @@ pub mod Lane
 pub mod LaneParts
 pub mod JournalParts
 pub mod Queues
+pub mod Edu
+pub mod Offered
+pub mod Offering
