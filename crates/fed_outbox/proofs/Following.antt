@@ -1,21 +1,23 @@
 -- What was placed for a destination, on its way into the outbox.
-use Rattle.std.proofs.Common.{arith, ◌≡◌, ℕ, ◌+◌, ◌==◌, Bool, true, false, not, ◌||◌, ◌&&◌, if◌then◌else◌, List, [], ◌∷◌, ◌++◌, length, Option, Some, None, refl, sym, ap, ◌∙◌, subst, length-append}
+use Rattle.std.proofs.Common.{arith, ◌≡◌, ℕ, ◌+◌, ◌==◌, Bool, true, false, not, ◌||◌, ◌&&◌, if◌then◌else◌, List, [], ◌∷◌, ◌++◌, length, map, Option, Some, None, refl, sym, ap, ◌∙◌, subst, length-append}
 use Rattle.std.specs.List.{slice_get, list_any, filter_map, cons_option}
 use Rattle.std.specs.Option.{option_map}
-use Rattle.std.proofs.lemmas.List.{append_assoc}
+use Rattle.std.proofs.lemmas.List.{append_assoc, append-nil}
 use Rattle.std.proofs.lemmas.List.Elements.{filter_map-append}
 use Rattle.std.proofs.lemmas.List.Folds.{list_any-append}
 use Rattle.std.proofs.lemmas.Bool.{eq-eqb}
+use Rattle.fed_journal.specs.Place.{PlaceValue}
 use Rattle.fed_journal.specs.declared.entry.Entry.{Entry}
 use Rattle.fed_journal.specs.declared.parcel.Load.{Load}
 use Rattle.fed_journal.specs.declared.parcel.Load.TheVariants.{Event, Edu, End}
 use Rattle.fed_journal.specs.declared.parcel.Parcel.{Parcel}
-use Rattle.fed_journal.specs.Journal.{loads, numbered, parcels}
+use Rattle.fed_journal.specs.Journal.{loads, numbered, parcels, addressed, addressed_edus}
 use Rattle.fed_journal.specs.Loads.{event_in_load, edu_in_load, is_end}
-use Rattle.fed_outbox.specs.Outbox.{OutboxState, expected, fits, with_load}
-use Rattle.fed_outbox.specs.Runs.{Call, after_call, accepted_by, events_of, edus_of}
-use Rattle.fed_outbox.specs.Collecting.{Lane, collected, collected_of}
+use Rattle.fed_outbox.specs.Outbox.{OutboxState, accepted, accepted_edus, expected, fits, with_load}
+use Rattle.fed_outbox.specs.Runs.{Call, after_call, accepted_by, events_of, edus_of, places_from}
+use Rattle.fed_outbox.specs.Collecting.{Way, collected, collected_of}
 use Rattle.fed_outbox.specs.Following.{Follows}
+use Rattle.fed_outbox.specs.Accepted.{HasAccepted}
 use Rattle.fed_outbox.proofs.Steps.{Same, Does, call_does, same_expected, with_load_adds}
 
 -- an end stands last among what is placed
@@ -111,11 +113,11 @@ module _ (d : ℕ) (placed : List Parcel) (held : List Load) (last : EndsLast pl
   collected_follows (p ∷ ps) o f = one_collected p ps o f
 
 -- one more entry
-pub entered_follows : (d : ℕ) (placed more : List Parcel) (whole : List Parcel) (lane : Lane) → whole ≡ placed ++ more → Follows d placed lane
-    → Follows d whole (record { queue = lane.queue ++ more; outbox = lane.outbox })
-entered_follows d placed more whole lane e f = record {
+pub entered_follows : (d : ℕ) (placed more : List Parcel) (whole : List Parcel) (way : Way) → whole ≡ placed ++ more → Follows d placed way
+    → Follows d whole (record { queue = way.queue ++ more; outbox = way.outbox })
+entered_follows d placed more whole way e f = record {
   collected = f.collected;
-  all = e ∙ ap (λ ps. ps ++ more) f.all ∙ append_assoc f.collected lane.queue more;
+  all = e ∙ ap (λ ps. ps ++ more) f.all ∙ append_assoc f.collected way.queue more;
   dest = f.dest;
   events = f.events;
   edus = f.edus;
@@ -136,10 +138,10 @@ same_follows d placed queue o next same f = record {
   end = same.end ∙ f.end;
 }
 
-pub call_follows : (d : ℕ) (placed : List Parcel) (lane : Lane) (call : Call) → accepted_by lane.outbox call ≡ None → Follows d placed lane
-    → Follows d placed (record { queue = lane.queue; outbox = after_call lane.outbox call })
-call_follows d placed lane call none f =
-    same_follows d placed lane.queue lane.outbox (after_call lane.outbox call) (subst (λ parcel. Does lane.outbox parcel (after_call lane.outbox call)) none (call_does lane.outbox call)) f
+pub call_follows : (d : ℕ) (placed : List Parcel) (way : Way) (call : Call) → accepted_by way.outbox call ≡ None → Follows d placed way
+    → Follows d placed (record { queue = way.queue; outbox = after_call way.outbox call })
+call_follows d placed way call none f =
+    same_follows d placed way.queue way.outbox (after_call way.outbox call) (subst (λ parcel. Does way.outbox parcel (after_call way.outbox call)) none (call_does way.outbox call)) f
 
 -- what is picked from parcels is what is picked from their loads
 picked_numbered : {X : Type 0} (pick : Load → Option X) (d n : ℕ) (xs : List Load) → filter_map (λ parcel. pick parcel.load) (numbered d n xs) ≡ filter_map pick xs
@@ -153,3 +155,54 @@ pub picked_on_the_way : {X : Type 0} (pick : Load → Option X) (d : ℕ) (entri
 picked_on_the_way pick d entries collected queue all taken whole split accepted =
     sym whole ∙ sym (picked_numbered pick d 0 (loads entries d)) ∙ ap (filter_map (λ parcel. pick parcel.load)) split
     ∙ filter_map-append (λ parcel. pick parcel.load) collected queue ∙ ap (λ l. l ++ filter_map (λ parcel. pick parcel.load) queue) (sym accepted)
+
+-- ---- what was accepted of all that is placed
+
+abbrev place_in : Parcel → PlaceValue
+place_in parcel = parcel.place
+
+-- a front of parcels that are numbered stands at the places from the first on
+front_places : (d n : ℕ) (held : List Load) (xs ys : List Parcel) → numbered d n held ≡ xs ++ ys → map place_in xs ≡ places_from d (n + 1) (length xs)
+front_places d n held [] ys e = refl
+front_places d n [] (x ∷ xs) ys e = absurd (cc)
+front_places d n (l ∷ held) (x ∷ xs) ys e =
+    let first : record { dest = d; number = n + 1 } ≡ x.place = ap place_first e in
+    let others : numbered d (n + 1) held ≡ xs ++ ys = ap behind_first e in
+    ap (λ p. p ∷ map place_in xs) (sym first) ∙ ap (λ ps. record { dest = d; number = n + 1 } ∷ ps) (front_places d (n + 1) held xs ys others)
+  where
+    place_first : List Parcel → PlaceValue
+    place_first [] = record { dest = d; number = n + 1 }
+    place_first (p ∷ ps) = p.place
+
+    behind_first : List Parcel → List Parcel
+    behind_first [] = []
+    behind_first (p ∷ ps) = ps
+
+pub front_accepted : (d : ℕ) (entries : List Entry) (way : Way) → Follows d (parcels entries d) way → (front : List Parcel) × ((parcels entries d ≡ front ++ way.queue) × HasAccepted d front way.outbox)
+front_accepted d entries way f = (
+  f.collected,
+  (
+    f.all,
+    record {
+      dest = f.dest;
+      places = front_places d 0 (loads entries d) f.collected way.queue f.all;
+      next = f.next;
+      events = f.events;
+      edus = f.edus;
+      end = f.end;
+    },
+  ),
+)
+
+-- once an end was accepted all was
+pub all_accepted : (d : ℕ) (entries : List Entry) (way : Way) → EndsLast (parcels entries d) → addressed entries d ≡ accepted way.outbox ++ events_of way.queue
+    → addressed_edus entries d ≡ accepted_edus way.outbox ++ edus_of way.queue → Follows d (parcels entries d) way → way.outbox.has_end ≡ true
+    → (way.queue ≡ []) × ((accepted way.outbox ≡ addressed entries d) × (accepted_edus way.outbox ≡ addressed_edus entries d))
+all_accepted d entries way last events edus f ended =
+    let none : way.queue ≡ [] = last f.collected way.queue f.all (sym f.end ∙ ended) in (
+      none,
+      (
+        sym (events ∙ ap (λ q. accepted way.outbox ++ events_of q) none ∙ append-nil (accepted way.outbox)),
+        sym (edus ∙ ap (λ q. accepted_edus way.outbox ++ edus_of q) none ∙ append-nil (accepted_edus way.outbox)),
+      ),
+    )

@@ -8,3 +8,5 @@ pub mod Lending
 pub mod Runs
 pub mod Collecting
 pub mod Following
+pub mod Answering
+pub mod Accepted

@@ -1,5 +1,6 @@
 // What holds of all outboxes, over every list of calls.
 ghost use Rattle.std.specs.Prelude.{◌≡◌, ◌≢◌, ◌≤◌, ◌<◌, ◌+◌, ◌*◌, ℕ, List, [], ◌∷◌, ◌++◌, Some, None, length, map, true, false};
+ghost use Rattle.std.specs.Option.{option_to_list};
 ghost use Rattle.serde_json.specs.Data.{Data};
 ghost use Rattle.fed_event.specs.Checked.{CheckedEvent};
 ghost use Rattle.fed_journal.specs.declared.parcel.Parcel.{Parcel};
@@ -8,9 +9,10 @@ ghost use Rattle.fed_journal.specs.Journal.{numbered, parcels, addressed, addres
 ghost use Rattle.fed_journal.specs.Queues.{queue_after};
 ghost use Rattle.fed_outbox.specs.Transaction.{TransactionValue};
 ghost use Rattle.fed_outbox.specs.Outbox.{OutboxState, new_outbox, accepted, accepted_edus, expected, unanswered_pdus, unanswered_edus, is_unanswered, fits, cut, failed, delay};
-ghost use Rattle.fed_outbox.specs.Collecting.{Lane, collected};
+ghost use Rattle.fed_outbox.specs.Collecting.{Way, collected};
 ghost use Rattle.fed_outbox.specs.Following.{Follows};
 ghost use Rattle.fed_outbox.specs.Together.{HoldsTogether};
+ghost use Rattle.fed_outbox.specs.Accepted.{HasAccepted};
 ghost use Rattle.fed_outbox.specs.Runs.{Call, Settle, after_call, after, accepted_by, accepted_parcels, events_of, edus_of, places_from, settles};
 
 use fed_journal::{places_count, what_an_entry_places, what_is_addressed_is_placed};
@@ -39,6 +41,14 @@ pub fn accepted_places_have_no_gap()
     ensures edus { (d : ℕ) (calls : List Call) → accepted_edus (after (new_outbox d) calls) ≡ edus_of (accepted_parcels (new_outbox d) calls) }
     ensures number { (d : ℕ) (calls : List Call) → expected (after (new_outbox d) calls) ≡ length (accepted_parcels (new_outbox d) calls) + 1 }
     ensures dest { (d : ℕ) (calls : List Call) → (after (new_outbox d) calls).dest ≡ d }
+{}
+
+/// A new outbox has accepted no parcel; a call adds the parcel that it makes the outbox accept, if any, behind those before.
+pub fn what_was_accepted()
+    ensures new { (d : ℕ) → HasAccepted d [] (new_outbox d) }
+    ensures call { (d : ℕ) (parcels : List Parcel) (o : OutboxState) (call : Call) → HasAccepted d parcels o
+        → HasAccepted d (parcels ++ option_to_list (accepted_by o call)) (after_call o call) }
+    ensures calls { (d : ℕ) (calls : List Call) → HasAccepted d (accepted_parcels (new_outbox d) calls) (after (new_outbox d) calls) }
 {}
 
 /// The unanswered transaction stays, with its number and all that it has, until it is answered with 200: so what is sent again is the
@@ -80,20 +90,25 @@ pub fn delays_double_up_to_an_hour()
 
 /// What is placed for a destination goes, in order and each parcel once, through the queue into the outbox: what was placed is at all times
 /// what the outbox has accepted, and then what the queue holds. So the first parcel of a queue always comes next, and what was addressed
-/// to the destination is what was accepted, and then what the queue holds.
+/// to the destination is what was accepted, and then what the queue holds; once an end was accepted nothing waits in the queue, and all
+/// that was addressed was accepted.
 pub fn nothing_is_lost_on_the_way()
     ensures new { (d : ℕ) → Follows d (parcels [] d) (record { queue = []; outbox = new_outbox d }) }
-    ensures entered { (d : ℕ) (entries : List Entry) (entry : Entry) (lane : Lane) → Follows d (parcels entries d) lane
-        → Follows d (parcels (entries ++ entry ∷ []) d) (record { queue = queue_after entries entry d lane.queue; outbox = lane.outbox }) }
+    ensures entered { (d : ℕ) (entries : List Entry) (entry : Entry) (way : Way) → Follows d (parcels entries d) way
+        → Follows d (parcels (entries ++ entry ∷ []) d) (record { queue = queue_after entries entry d way.queue; outbox = way.outbox }) }
     ensures next { (d : ℕ) (entries : List Entry) (parcel : Parcel) (later : List Parcel) (o : OutboxState)
         → Follows d (parcels entries d) (record { queue = parcel ∷ later; outbox = o }) → fits o parcel.place ≡ true }
-    ensures collected { (d : ℕ) (entries : List Entry) (lane : Lane) → Follows d (parcels entries d) lane → Follows d (parcels entries d) (collected lane) }
-    ensures others { (d : ℕ) (placed : List Parcel) (lane : Lane) (call : Call) → accepted_by lane.outbox call ≡ None → Follows d placed lane
-        → Follows d placed (record { queue = lane.queue; outbox = after_call lane.outbox call }) }
-    ensures events { (d : ℕ) (entries : List Entry) (lane : Lane) → Follows d (parcels entries d) lane
-        → addressed entries d ≡ accepted lane.outbox ++ events_of lane.queue }
-    ensures edus { (d : ℕ) (entries : List Entry) (lane : Lane) → Follows d (parcels entries d) lane
-        → addressed_edus entries d ≡ accepted_edus lane.outbox ++ edus_of lane.queue }
+    ensures collected { (d : ℕ) (entries : List Entry) (way : Way) → Follows d (parcels entries d) way → Follows d (parcels entries d) (collected way) }
+    ensures others { (d : ℕ) (placed : List Parcel) (way : Way) (call : Call) → accepted_by way.outbox call ≡ None → Follows d placed way
+        → Follows d placed (record { queue = way.queue; outbox = after_call way.outbox call }) }
+    ensures events { (d : ℕ) (entries : List Entry) (way : Way) → Follows d (parcels entries d) way
+        → addressed entries d ≡ accepted way.outbox ++ events_of way.queue }
+    ensures edus { (d : ℕ) (entries : List Entry) (way : Way) → Follows d (parcels entries d) way
+        → addressed_edus entries d ≡ accepted_edus way.outbox ++ edus_of way.queue }
+    ensures accepted { (d : ℕ) (entries : List Entry) (way : Way) → Follows d (parcels entries d) way
+        → (front : List Parcel) × ((parcels entries d ≡ front ++ way.queue) × HasAccepted d front way.outbox) }
+    ensures ended { (d : ℕ) (entries : List Entry) (way : Way) → Follows d (parcels entries d) way → way.outbox.has_end ≡ true
+        → (way.queue ≡ []) × ((accepted way.outbox ≡ addressed entries d) × (accepted_edus way.outbox ≡ addressed_edus entries d)) }
 {
     what_an_entry_places();
     what_is_addressed_is_placed();

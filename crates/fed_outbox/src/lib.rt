@@ -19,6 +19,7 @@ pub use fault::OutboxFault;
 pub use laws::{
     accepted_places_have_no_gap, delays_double_up_to_an_hour, nothing_is_lost_on_the_way,
     outboxes_hold_together, the_unanswered_stays, what_accept_adds, what_is_settled_stays,
+    what_was_accepted,
 };
 pub use outbox::Outbox;
 pub use settlement::Settlement;

@@ -58,6 +58,7 @@ impl Model for Outbox {
 impl Outbox {
     ghost use Rattle.fed_outbox.specs.Outbox.{new_outbox, accepted, accepted_edus, accepted_count, expected, fits, is_next, with_load, can_cut, cut, is_due, has_number, failed, settle, is_ended, is_unanswered, next_transaction};
     ghost use Rattle.fed_outbox.specs.Settlement.{settlement};
+    ghost use Rattle.fed_outbox.specs.Answering.{failed_once, due_told, answered, answer_told};
     ghost use Rattle.fed_outbox.specs.Together.{HoldsTogether};
     ghost use Rattle.fed_outbox.specs.Lending.{EndsAs};
 
@@ -294,6 +295,39 @@ impl Outbox {
         self.failures = 0;
         self.due_at = 0;
         Settlement::Settled
+    }
+
+    /// The sending of the unanswered transaction failed, as `failed` says: when it is due again. `None` where none is unanswered; then
+    /// nothing changes. It takes no memory.
+    pub fn failed_once(&mut self, now: u64) -> Option<u64>
+        requires { now ≤ 9007199254740991 }
+        ensures failed { self.new ≡ failed_once self.old now }
+        ensures told { result ≡ due_told self.old now }
+    {
+        let number = self.unanswered()?.number;
+        self.failed(number, now);
+        Some(self.due_at())
+    }
+
+    /// Transaction `n` was answered with this status, as `settle` says, or with what is no answer that can be read, by which it has
+    /// failed. It takes no memory.
+    pub fn answered(&mut self, n: u64, status: Option<u16>, now: u64) -> Settlement
+        requires { now ≤ 9007199254740991 }
+        ensures answered { self.new ≡ answered self.old n status now }
+        ensures told { result ≡ answer_told self.old n status }
+    {
+        match status {
+            Some(status) => self.settle(n, status, now),
+            None if self.failed(n, now) => Settlement::Failed,
+            None => Settlement::Ignored,
+        }
+    }
+
+    /// Whether an end was accepted. It takes no memory.
+    pub fn has_end(&self) -> bool
+        ensures { result ≡ self.now.has_end }
+    {
+        self.has_end
     }
 
     /// How many events are settled.
