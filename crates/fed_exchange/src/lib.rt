@@ -1,0 +1,16 @@
+//! The way of a transaction and of its answer from one Matrix server to another, in bytes (Server-Server API, "PUT
+//! /_matrix/federation/v1/send/{txnId}"): a transaction goes as a signed request of HTTP/1.1, and its answer as a reply.
+//!
+//! What the bytes are stands in definitions, which the contracts of senders and of receivers can cite.
+//!
+//! - `requests`: `request_bytes`, from a transaction to the bytes of its request, and `read_request`, from bytes to their request
+//! - `replies`: `read_status`, the status that is read from the bytes of a reply
+//! - `front`: the message that bytes begin with
+#![tactic(auto)]
+
+mod front;
+mod replies;
+mod requests;
+
+pub use replies::read_status;
+pub use requests::{read_request, request_bytes};

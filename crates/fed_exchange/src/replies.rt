@@ -1,0 +1,25 @@
+// From replies to what is read of them.
+ghost use Rattle.std.specs.Prelude.{IfOk};
+ghost use Rattle.fed_exchange.specs.Messages.{IsStatusOf};
+
+use crate::front::message_at_front;
+use fed_http::{Message, Reader, Reply, write_reply};
+use fed_json::NoMemory;
+use std::alloc::Global;
+
+/// The status that is read from the bytes of a reply, which is all that the sender of a transaction takes of it; `None` where its bytes
+/// begin with no reply, as where it is an interim one or too large. The reply is written and read for that.
+///
+/// # Errors
+///
+/// `NoMemory` where memory runs out.
+pub fn read_status(alloc: Global, reply: &Reply) -> Result<Option<u16>, NoMemory>
+    ensures { IfOk result (λ found. IsStatusOf reply.now found) }
+{
+    let bytes = write_reply(alloc, reply)?;
+    match message_at_front(alloc, Reader::replies(alloc), &bytes)? {
+        Some(Message::Reply(reply)) => Ok(Some(reply.status())),
+        Some(Message::Request(_)) => Ok(None),
+        None => Ok(None),
+    }
+}
