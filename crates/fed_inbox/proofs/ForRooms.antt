@@ -112,7 +112,7 @@ module _ (checks : Checks) (s : InboxState) (r : Request) (found : Bool) where
   abbrev Cased : Type 0
   Cased = RequestCases checks s r (marked_answer checks s r found) (marked_after checks s r found) (marked_fresh checks s r found)
 
-  one_for_rooms : All (IsForRooms checks s.rooms) (marked_fresh checks s r found)
+  pub one_for_rooms : All (IsForRooms checks s.rooms) (marked_fresh checks s r found)
   one_for_rooms = by (cases checks s r found)
     where
       by : Cased → All (IsForRooms checks s.rooms) (marked_fresh checks s r found)
@@ -131,7 +131,7 @@ module _ (checks : Checks) (s : InboxState) (r : Request) (found : Bool) where
       by (inr (inl again)) = subst (AllPairs (λ one other. event_id_of one.event ≢ event_id_of other.event)) (sym again.fresh_is) none_apart
       by (inr (inr first)) = subst (AllPairs (λ one other. event_id_of one.event ≢ event_id_of other.event)) (sym first.fresh_is) (fresh_apart checks s.rooms first.transaction.pdus)
 
-  rooms_stay : (marked_after checks s r found).rooms ≡ s.rooms
+  pub rooms_stay : (marked_after checks s r found).rooms ≡ s.rooms
   rooms_stay = elim found as (λ (b : Bool). (if b then after checks s r else s).rooms ≡ s.rooms) [ true ↦ refl | false ↦ refl ]
 
 pub all_fresh : (checks : Checks) (s : InboxState) (asked : List Asked) → All (IsForRooms checks s.rooms) (fresh_all checks s asked)

@@ -13,3 +13,5 @@ pub mod Origins
 pub mod Incomings
 pub mod Wholes
 pub mod Queues
+pub mod Histories
+pub mod Deliveries

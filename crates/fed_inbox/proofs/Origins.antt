@@ -16,7 +16,7 @@ new_by_origin own servers order =
     subst (IsStrictlySortedBy (slice_cmp nat_cmp)) (sym (origins_of_empty (filter (λ server. not (bytes_eq server own)) servers)))
     (IsStrictlySortedBy-filter (slice_cmp nat_cmp) (λ server. not (bytes_eq server own)) servers order)
 
-origins-set : (logs : List TakenFrom) (place : ℕ) (old new : TakenFrom) → old ≡ get_or logs place old → new.origin ≡ old.origin → map origin_of (set logs place new) ≡ map origin_of logs
+pub origins-set : (logs : List TakenFrom) (place : ℕ) (old new : TakenFrom) → old ≡ get_or logs place old → new.origin ≡ old.origin → map origin_of (set logs place new) ≡ map origin_of logs
 origins-set [] place old new is same = refl
 origins-set (log ∷ logs) zero old new is same = ap (λ o. o ∷ map origin_of logs) (rw (same) (ap origin_of is))
 origins-set (log ∷ logs) (suc place) old new is same = ap (λ os. log.origin ∷ os) (origins-set logs place old new is same)

@@ -1,16 +1,25 @@
 -- How many events a request brings for the rooms, and what the queue of a room gets of them.
-use Rattle.std.proofs.Common.{arith, ◌≡◌, ℕ, zero, suc, ◌≤◌, Bool, true, false, ◌&&◌, not, cond, if◌then◌else◌, List, [], ◌∷◌, ◌++◌, length, filter, Option, Some, None, is_some, is_none, Result, Ok, Err, refl, sym, ap, ◌∙◌, inl, inr, take, drop}
+use Rattle.std.proofs.Common.{arith, ◌≡◌, ◌≢◌, ℕ, zero, suc, ◌+◌, ◌<◌, ◌≤◌, ◌==◌, nat_lt, Bool, true, false, ◌&&◌, not, cond, if◌then◌else◌, List, [], ◌∷◌, ◌++◌, length, filter, get_or, Option, Some, None, is_some, is_none, Result, Ok, Err, bytes_eq, refl, sym, ap, subst, ◌∙◌, ◌⊎◌, inl, inr, take, drop}
 use Rattle.std.proofs.lemmas.List.{length-map}
-use Rattle.std.specs.List.{slice_get}
+use Rattle.std.specs.List.{slice_get, IsDistinct, position_or_len}
 use Rattle.std.specs.Prelude.{pos}
 use Rattle.std.specs.Option.{unwrap_or}
-use Rattle.std.proofs.lemmas.Bool.{leb-true}
+use Rattle.std.proofs.lemmas.Bool.{leb-true, false≢true, lt-ltb}
+use Rattle.std.proofs.lemmas.Bool.Decides.{nat_tests}
+use Rattle.std.proofs.lemmas.List.Quantifiers.{position-Some}
+use Rattle.std.proofs.lemmas.List.Sums.{position_or_len_is}
+use Rattle.std.proofs.lemmas.Map.Keys.{apart_from_distinct}
+use Rattle.std.proofs.lemmas.Option.{none-some, same_Some, slice_get_within, get_or_from_slice_get}
+use Rattle.std.proofs.lemmas.Slice.Eq.{bytes_eq-Decides}
 use Rattle.serde_json.specs.Data.{Data}
 use Rattle.serde_json.specs.Find.{as_object}
 use Rattle.fed_event.specs.Names.{is_one_of}
 use Rattle.fed_event.specs.EventId.{event_id_of}
 use Rattle.fed_event.specs.Keys.{Checks}
 use Rattle.fed_event.specs.Checked.{CheckedEvent, checked_of}
+use Rattle.fed_event.specs.Fields.{room_id_of}
+use Rattle.fed_event.specs.Tests.{holds}
+use Rattle.fed_dest.specs.List.{place_of}
 use Rattle.fed_txn.specs.declared.fault.TxnFault.{TxnFault}
 use Rattle.fed_txn.specs.declared.fault.TxnFault.TheVariants.{TooManyPdus}
 use Rattle.fed_txn.specs.Transaction.{Transaction, origin_of, at_ms_of, pdus_of, edus_of, are_at_most, tests, unless_failed, transaction_of}
@@ -18,7 +27,8 @@ use Rattle.fed_txn.specs.Reading.{body_of, transaction_or_fault}
 use Rattle.fed_inbox.specs.Inbox.{InboxState}
 use Rattle.fed_inbox.specs.Taking.{firsts_but, firsts, fresh_of, verdict_on}
 use Rattle.fed_inbox.specs.Answer.{Request, marked_answer, marked_after, marked_fresh}
-use Rattle.fed_inbox.specs.Queues.{for_room, queues_with}
+use Rattle.fed_inbox.specs.Queues.{for_room, for_place, queues_from, queues_after}
+use Rattle.fed_inbox.proofs.FoundLogs.{same_or_not}
 use Rattle.fed_inbox.proofs.Cases.{RequestCases, cases}
 
 -- ---- a transaction has at most 50 events
@@ -107,29 +117,66 @@ few_for_rooms checks s r found = by (cases checks s r found)
 
 -- ---- the queues of the rooms
 
-pub queue_of_room : (rooms : List (List ℕ)) (events : List CheckedEvent) (queues : List (List CheckedEvent)) (k : ℕ) (room : List ℕ) (queue : List CheckedEvent)
-    → slice_get rooms k ≡ Some room → slice_get queues k ≡ Some queue → slice_get (queues_with rooms events queues) k ≡ Some (queue ++ for_room room events)
-queue_of_room [] events queues k room queue there here = absurd (cc)
-queue_of_room (r ∷ rooms) events [] k room queue there here = absurd (cc)
-queue_of_room (r ∷ rooms) events (q ∷ queues) zero room queue there here =
-    ap Some (ap (λ x. x ++ for_room r events) (unwrapped_queue here) ∙ ap (λ x. queue ++ for_room x events) (unwrapped_room there))
-  where
-    room_in : Option (List ℕ) → List ℕ
-    room_in None = r
-    room_in (Some x) = x
+pub false_if_not : (b : Bool) → (b ≡ true → ⊥) → b ≡ false
+false_if_not false h = refl
+false_if_not true h = absurd (h refl)
 
-    queue_in : Option (List CheckedEvent) → List CheckedEvent
-    queue_in None = q
-    queue_in (Some x) = x
+module _ (known : List (List ℕ)) where
+  -- the room at place m = n + k gets the events for it
+  queue_from : (n : ℕ) (events : List CheckedEvent) (queues : List (List CheckedEvent)) (k m : ℕ) (queue : List CheckedEvent) → m ≡ n + k
+      → slice_get queues k ≡ Some queue → slice_get (queues_from n known events queues) k ≡ Some (queue ++ for_place known m events)
+  queue_from n events [] k m queue at here = absurd (none-some queue here)
+  queue_from n events (q ∷ queues) zero m queue at here =
+      let first : n ≡ m = omega arith in
+      λ i. Some (same_Some q queue here i ++ for_place known (first i) events)
+  queue_from n events (q ∷ queues) (suc k) m queue at here = queue_from (n + 1) events queues k m queue (omega (arith, at)) here
 
-    unwrapped_room : Some r ≡ Some room → r ≡ room
-    unwrapped_room e = ap room_in e
+  pub queue_of_place : (events : List CheckedEvent) (queues : List (List CheckedEvent)) (k : ℕ) (queue : List CheckedEvent)
+      → slice_get queues k ≡ Some queue → slice_get (queues_after known events queues) k ≡ Some (queue ++ for_place known k events)
+  queue_of_place events queues k queue here = queue_from 0 events queues k k queue (omega arith) here
 
-    unwrapped_queue : Some q ≡ Some queue → q ≡ queue
-    unwrapped_queue e = ap queue_in e
-queue_of_room (r ∷ rooms) events (q ∷ queues) (suc k) room queue there here = queue_of_room rooms events queues k room queue there here
+  queues_from_stay : (n : ℕ) (events : List CheckedEvent) (queues : List (List CheckedEvent)) → length (queues_from n known events queues) ≡ length queues
+  queues_from_stay n events [] = refl
+  queues_from_stay n events (queue ∷ queues) = ap suc (queues_from_stay (n + 1) events queues)
 
-pub queues_stay : (rooms : List (List ℕ)) (events : List CheckedEvent) (queues : List (List CheckedEvent)) → length (queues_with rooms events queues) ≡ length queues
-queues_stay [] events queues = refl
-queues_stay (room ∷ rooms) events [] = refl
-queues_stay (room ∷ rooms) events (queue ∷ queues) = ap suc (queues_stay rooms events queues)
+  pub queues_stay : (events : List CheckedEvent) (queues : List (List CheckedEvent)) → length (queues_after known events queues) ≡ length queues
+  queues_stay events queues = queues_from_stay 0 events queues
+
+  -- ---- different ids
+
+  module _ (apart : IsDistinct bytes_eq known) (k : ℕ) (room : List ℕ) (there : slice_get known k ≡ Some room) where
+    within : k < length known
+    within = slice_get_within known k room there
+
+    -- the room itself stands at its place, and no earlier
+    own_place : place_of known room ≡ Some k
+    own_place =
+        let at : position_or_len (λ other. bytes_eq other room) known ≡ k = position_or_len_is (λ other. bytes_eq other room) known k [] (omega (arith, within))
+        (λ j below. ap (bytes_eq (get_or known j [])) (sym (get_or_from_slice_get known k room [] there)) ∙ apart_from_distinct bytes_eq known j k [] apart below within)
+        (λ _. ap (λ other. bytes_eq other room) (get_or_from_slice_get known k room [] there) ∙ (bytes_eq-Decides room room).1 refl) in
+        ap (λ (n : ℕ). cond (nat_lt n (length known)) (Some n) None) at ∙ ap (λ b. cond b (Some k) None) (lt-ltb k (length known) within)
+
+    -- another room stands elsewhere
+    other_place : (name : List ℕ) (o : Option ℕ) → place_of known name ≡ o → holds (λ place. place == k) o ≡ true → name ≡ room
+    other_place name None is h = absurd (false≢true h)
+    other_place name (Some j) is h =
+        let same : j ≡ k = grind (arith, nat_tests) in
+        let P : ℕ → Type 0 = λ n. bytes_eq (get_or known n []) name ≡ true in
+        sym ((bytes_eq-Decides (get_or known k []) name).0 (subst P same (position-Some (λ other. bytes_eq other name) known j [] is).1)) ∙ get_or_from_slice_get known k room [] there
+
+    equal_itself : (place : ℕ) → (place == place) ≡ true
+    equal_itself place = grind (arith, nat_tests)
+
+    is_for_place : (name : List ℕ) → holds (λ place. place == k) (place_of known name) ≡ bytes_eq name room
+    is_for_place name = by (same_or_not name room)
+      where
+        by : (name ≡ room) ⊎ (name ≢ room) → holds (λ place. place == k) (place_of known name) ≡ bytes_eq name room
+        by (inl same) =
+            ap (λ n. holds (λ place. place == k) (place_of known n)) same ∙ ap (holds (λ place. place == k)) own_place ∙ equal_itself k
+            ∙ sym ((bytes_eq-Decides name room).1 same)
+        by (inr other) =
+            false_if_not (holds (λ place. place == k) (place_of known name)) (λ h. other (other_place name (place_of known name) refl h))
+            ∙ sym (false_if_not (bytes_eq name room) (λ h. other ((bytes_eq-Decides name room).0 h)))
+
+    pub place_is_room : (events : List CheckedEvent) → for_place known k events ≡ for_room room events
+    place_is_room events = λ i. filter (λ (event : CheckedEvent). is_for_place (room_id_of event.event) i) events

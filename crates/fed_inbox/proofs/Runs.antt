@@ -25,10 +25,10 @@ use Rattle.fed_inbox.proofs.Cases.{First, RequestCases, cases, other_stays}
 no_some : (reply : List ℕ) → None ≡ Some reply → ⊥
 no_some reply e = absurd (cc)
 
-not_both : (o : Option (List ℕ)) (reply : List ℕ) → o ≡ None → o ≡ Some reply → ⊥
+pub not_both : (o : Option (List ℕ)) (reply : List ℕ) → o ≡ None → o ≡ Some reply → ⊥
 not_both o reply none some = no_some reply (sym none ∙ some)
 
-one_reply : (a b : List ℕ) → Some a ≡ Some b → a ≡ b
+pub one_reply : (a b : List ℕ) → Some a ≡ Some b → a ≡ b
 one_reply a b e = cc
 
 pub not_refused : (refusal : Refusal) → (refused refusal).status ≡ 200 → ⊥
@@ -217,7 +217,7 @@ module _ (checks : Checks) where
         by (inr (inr first)) = absurd (not_both _ reply first.none (sym (kept_before s r answer new fresh first r.txn) ∙ kept))
 
     -- a reply that is kept from this request on is its answer
-    newly_kept : (o q reply : List ℕ) → kept_reply s o q ≡ None → kept_reply new o q ≡ Some reply → (r.origin ≡ o) × (r.txn ≡ q) × (answer ≡ accepted reply)
+    pub newly_kept : (o q reply : List ℕ) → kept_reply s o q ≡ None → kept_reply new o q ≡ Some reply → (r.origin ≡ o) × (r.txn ≡ q) × (answer ≡ accepted reply)
     newly_kept o q reply none kept = by (same_or_not o r.origin) (cases checks s r found) (same_or_not q r.txn)
       where
         by : (o ≡ r.origin) ⊎ (o ≢ r.origin) → RequestCases checks s r answer new fresh → (q ≡ r.txn) ⊎ (q ≢ r.txn) → (r.origin ≡ o) × (r.txn ≡ q) × (answer ≡ accepted reply)

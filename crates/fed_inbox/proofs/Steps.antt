@@ -1,11 +1,9 @@
 -- How a log is answered: by its step, or for want of memory.
-use Rattle.std.proofs.Common.{◌≡◌, ◌≢◌, ℕ, List, [], subst, Result, Ok, Err, IsOk, IfErr, true, false, refl, sym, ap, ◌∙◌, ◌⊎◌, inl, inr, ◌<◌, length, map, get_or, set, Bool, if◌then◌else◌, Some, None}
+use Rattle.std.proofs.Common.{◌≡◌, ◌≢◌, ℕ, List, [], subst, Result, Ok, Err, true, false, refl, sym, ap, ◌∙◌, ◌⊎◌, inl, inr, ◌<◌, length, map, get_or, set, Bool, if◌then◌else◌, Some, None}
 use Rattle.std.specs.Prelude.{IsErrAnd}
 use Rattle.serde_json.specs.Data.{Data}
 use Rattle.fed_txn.specs.declared.fault.TxnFault.{TxnFault}
 use Rattle.fed_txn.specs.declared.fault.TxnFault.TheVariants.{Memory, NotJson, NotCanonical, BadJson, TooManyPdus, TooManyEdus, TooLarge}
-use Rattle.fed_txn.specs.declared.transaction.TransactionIn.{TransactionIn}
-use Rattle.fed_txn.specs.Transaction.{Transaction}
 use Rattle.fed_inbox.specs.declared.refusal.Refusal.{Refusal}
 use Rattle.fed_inbox.specs.declared.refusal.Refusal.TheVariants.{OutOfMemory, BadSignature, ServerNotListed}
 use Rattle.fed_inbox.specs.Refusal.{refusal_of}
@@ -17,7 +15,7 @@ use Rattle.fed_inbox.specs.InboxParts.{state_of}
 use Rattle.fed_event.specs.Keys.{Checks}
 use Rattle.fed_event.specs.Checked.{CheckedEvent}
 use Rattle.fed_inbox.specs.declared.log.Accepted.{Accepted}
-use Rattle.fed_inbox.specs.Answer.{Request, Step, Steps, step_new, step_body, step_of, answer_by, logs_by, fresh_by, IsAnswered}
+use Rattle.fed_inbox.specs.Answer.{Request, Step, Steps, step_body, step_of, answer_by, logs_by, fresh_by, IsAnswered}
 use Rattle.fed_inbox.specs.AnswerParts.{answer_with, fresh_with}
 use Rattle.fed_inbox.specs.Inbox.{InboxState, log_at, with_log}
 use Rattle.std.specs.List.{position}
@@ -53,15 +51,6 @@ memory_refused old step e r m h = record {
 }
 
 module _ (checks : Checks) (rooms : List (List ℕ)) where
-  -- the body of a transaction that is not taken
-  pub new_refused : (old : LogState) (txn : List ℕ) (t : Result Transaction TxnFault) (e : TxnFault) (r : Result Accepted Refusal)
-      → IfErr t (λ f. ◌≡◌ {A = Result TransactionIn TxnFault} (Err e) (Err f)) → (IsOk t → e ≡ Memory) → IsErrAnd r (λ y. y ≡ refusal_of e)
-      → Steps old (step_new checks rooms old txn t) (answer_with r) old (fresh_with r)
-  new_refused old txn (Ok t) e r same only h = memory_refused old _ e r (only refl) h
-  new_refused old txn (Err f) e r is only h =
-      let same : e ≡ f = cc in
-      record { found = true; answer_is = answer_of_err r (refusal_of e) h ∙ ap (λ g. refused (refusal_of g)) same; log_is = refl; fresh_is = fresh_of_err r (refusal_of e) h }
-
   -- a body that is none
   pub body_refused : (old : LogState) (txn : List ℕ) (is_signed : Data → Bool) (b : Result Data TxnFault) (e : TxnFault) (r : Result Accepted Refusal)
       → (e ≢ Memory → b ≡ Err e) → IsErrAnd r (λ y. y ≡ refusal_of e) → Steps old (step_body checks rooms old txn is_signed b) (answer_with r) old (fresh_with r)
@@ -82,7 +71,7 @@ same_inbox {o} {rooms} e i = record { own = o; rooms = rooms; logs = e i }
 
 module _ (checks : Checks) (s : InboxState) (request : Request) where
   -- the log of the origin is answered, and is put in its place
-  answered_in : (old : LogState) (answer : Answer) (new : LogState) (fresh : List CheckedEvent) → log_at request.origin s.logs ≡ Some old → Steps old (step_of checks s.rooms old request) answer new fresh
+  pub answered_in : (old : LogState) (answer : Answer) (new : LogState) (fresh : List CheckedEvent) → log_at request.origin s.logs ≡ Some old → Steps old (step_of checks s.rooms old request) answer new fresh
       → IsAnswered checks s request answer (record { own = s.own; rooms = s.rooms; logs = with_log request.origin s.logs new }) fresh
   answered_in old answer new fresh there h = by h.found refl
     where

@@ -1,16 +1,12 @@
 -- What a log and an inbox answer with, before it is a reply.
 use Rattle.std.specs.Prelude.{ℕ, List, [], Result, Ok, Err}
-use Rattle.serde_json.specs.Data.{Data}
 use Rattle.fed_event.specs.Keys.{Checks}
 use Rattle.fed_event.specs.Checked.{CheckedEvent}
-use Rattle.fed_txn.specs.declared.fault.TxnFault.{TxnFault}
-use Rattle.fed_txn.specs.Transaction.{Transaction}
 use Rattle.fed_inbox.specs.declared.log.Accepted.{Accepted}
 use Rattle.fed_inbox.specs.declared.refusal.Refusal.{Refusal}
 use Rattle.fed_inbox.specs.Reply.{Answer, accepted, refused}
-use Rattle.fed_inbox.specs.Log.{LogState}
 use Rattle.fed_inbox.specs.Inbox.{InboxState}
-use Rattle.fed_inbox.specs.Answer.{Request, IsAnswered, Steps, step_signed, step_new}
+use Rattle.fed_inbox.specs.Answer.{Request, IsAnswered}
 
 -- the reply, and the events for the rooms
 abbrev pub taken_by : Accepted → List ℕ × List CheckedEvent
@@ -28,10 +24,3 @@ fresh_with (Err refusal) = []
 module _ (checks : Checks) where
   abbrev pub IsTried : InboxState → Request → Result Accepted Refusal → InboxState → Type 0
   IsTried old request result new = IsAnswered checks old request (answer_with result) new (fresh_with result)
-
-  module _ (rooms : List (List ℕ)) where
-    abbrev pub IsStep : LogState → List ℕ → Data → Result Accepted Refusal → LogState → Type 0
-    IsStep old txn body result new = Steps old (step_signed checks rooms old txn body) (answer_with result) new (fresh_with result)
-
-    abbrev pub IsNewStep : LogState → List ℕ → Result Transaction TxnFault → Result Accepted Refusal → LogState → Type 0
-    IsNewStep old txn transaction result new = Steps old (step_new checks rooms old txn transaction) (answer_with result) new (fresh_with result)

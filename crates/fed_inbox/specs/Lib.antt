@@ -19,3 +19,8 @@ pub mod SendPath
 pub mod WholeRequest
 pub mod IncomingParts
 pub mod Queues
+pub mod TakeStep
+pub mod History
+pub mod Receiver
+pub mod Delivery
+pub mod DeliveryParts

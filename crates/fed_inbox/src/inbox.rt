@@ -6,25 +6,26 @@ ghost use Rattle.fed_inbox.specs.Reply.{refused};
 ghost use Rattle.fed_inbox.specs.Inbox.{new_held, log_at, taken_of, taken_edus_of};
 ghost use Rattle.fed_inbox.specs.InboxParts.{nothing_from_all};
 ghost use Rattle.fed_inbox.specs.LogParts.{is_from};
-ghost use Rattle.fed_inbox.specs.Answer.{IsAnswered, request_of, request_by};
+ghost use Rattle.fed_inbox.specs.Answer.{IsAnswered, request_of};
 ghost use Rattle.fed_inbox.specs.AnswerParts.{IsTried, answer_with, fresh_with};
 ghost use Rattle.fed_inbox.specs.SendPath.{path_of, segment_of};
-ghost use Rattle.fed_inbox.specs.WholeRequest.{IsAnsweredWhole, asked};
-ghost use Rattle.fed_inbox.specs.IncomingParts.{heading_of};
+ghost use Rattle.fed_inbox.specs.WholeRequest.{IsAnsweredWhole};
+ghost use Rattle.fed_inbox.specs.Receiver.{IsInboxOf};
+ghost use Rattle.fed_inbox.specs.Delivery.{IsTaken, judged_of};
+ghost use Rattle.fed_inbox.specs.DeliveryParts.{delivered, judgement, IsTriedTake};
 ghost use Rattle.fed_inbox.specs.Log.{AreByOrigin};
 
-use crate::incoming::Incoming;
+use crate::delivery::{Delivery, Judged};
 use crate::log::{Accepted, Log};
+use crate::receiver::Receiver;
 use crate::refusal::Refusal;
-use crate::rooms::Rooms;
 use crate::taken::Taken;
-use crate::vouching::{Known, Signed, Vouch};
 use fed_dest::{List, ServerName};
 use fed_event::{Checked, Keys};
 use fed_http::{Reply, Request};
 use fed_json::NoMemory;
 use fed_replies::ReplyStore;
-use fed_txn::{MAX_BODY, read_body};
+use fed_txn::MAX_BODY;
 use std::alloc::Global;
 use std::marker::Model;
 
@@ -33,8 +34,7 @@ use std::marker::Model;
 /// Contracts see it as its state, in which each log has the replies that the store keeps for its origin, and beside it the events that the newest answer took for the rooms and that are not handed out.
 #[derive(Drop)]
 pub struct Inbox<S: ReplyStore> {
-    own: ServerName,
-    rooms: Rooms,
+    receiver: Receiver,
     logs: Vec<Log>,
     fresh: Vec<Checked>,
     store: S,
@@ -48,11 +48,11 @@ impl<S: ReplyStore> Model for Inbox<S> {
 
     ghost coded = { held_code };
 
-    ghost view = { λ i. record { state = state_of i.own i.rooms (S.kept i.store) i.logs.items; fresh = i.fresh.items } };
+    ghost view = { λ i. record { state = state_of i.receiver.own i.receiver.rooms (S.kept i.store) i.logs.items; fresh = i.fresh.items } };
 
-    ghost use Rattle.fed_inbox.specs.Log.{AreByOrigin};
+    ghost use Rattle.fed_inbox.specs.InboxParts.{AreOfReceiver};
 
-    ghost invariant = { λ i. AreByOrigin i.logs.items };
+    ghost invariant = { λ i. AreOfReceiver i.receiver i.logs.items };
 }
 
 impl<S: ReplyStore + Drop> Inbox<S> {
@@ -67,11 +67,10 @@ impl<S: ReplyStore + Drop> Inbox<S> {
     ) -> Result<Inbox<S>, NoMemory>
         ensures { IfOk result (λ inbox. inbox ≡ new_held (S.kept store) own servers (map string_bytes rooms.items)) }
     {
-        let logs = logs_of(alloc, &own, servers)?;
-        let rooms = Rooms::new(alloc, rooms)?;
+        let logs = logs_of(alloc, &own, servers.copy(alloc)?)?;
+        let receiver = Receiver::new(alloc, own, servers, rooms)?;
         Ok(Inbox {
-            own,
-            rooms,
+            receiver,
             logs,
             fresh: Vec::new(alloc),
             store,
@@ -84,14 +83,21 @@ impl<S: ReplyStore> Inbox<S> {
     pub fn own(&self) -> &str
         ensures { result.now ≡ self.now.state.own }
     {
-        self.own.as_str()
+        self.receiver.own()
     }
 
     /// Whether the server knows the room of this id.
     pub fn knows(&self, room: &str) -> bool
         ensures { result ≡ is_one_of self.now.state.rooms room.now }
     {
-        self.rooms.contains(room)
+        self.receiver.knows(room)
+    }
+
+    /// What of it receives transactions without what it took and answered.
+    pub fn receiver(&self) -> &Receiver
+        ensures { IsInboxOf result.now self.now.state }
+    {
+        &self.receiver
     }
 
     /// Answers the transaction `txn` of `origin`, and takes it where the answer is its first 200. The first of these decides:
@@ -123,7 +129,7 @@ impl<S: ReplyStore> Inbox<S> {
         ensures large { IsSome (log_at origin.now self.old.state.logs) → MAX_BODY < length body.now
             → result ≡ refused Refusal.BodyTooLarge }
     {
-        let tried = self.try_answer(alloc, origin, txn, body, &Known, keys);
+        let tried = self.try_body(alloc, origin, txn, body, keys);
         self.settle(alloc, tried)
     }
 
@@ -179,6 +185,22 @@ impl<S: ReplyStore> Inbox<S> {
         self.settle(alloc, tried)
     }
 
+    /// Answers a transaction that was judged apart from the inbox, and takes it where the answer is its first 200. The first of these
+    /// decides:
+    ///
+    /// - 403 where the inbox takes from no such origin
+    /// - 200 with the kept reply where the transaction was taken before, whatever it comes to
+    /// - the refusal that it comes to
+    /// - else 200 with its reply, which is kept
+    ///
+    /// Where memory runs out the answer is 500, and nothing is taken or kept.
+    pub fn take(&mut self, alloc: Global, judged: Judged) -> Reply
+        ensures { IsTaken self.old.state (judgement judged) result self.new.state self.new.fresh }
+    {
+        let tried = self.try_take(alloc, judged);
+        self.settle(alloc, tried)
+    }
+
     // The reply to what was tried; its events wait for the rooms.
     fn settle(&mut self, alloc: Global, tried: Result<Accepted, Refusal>) -> Reply
         ensures reply { result ≡ answer_with tried }
@@ -207,56 +229,52 @@ impl<S: ReplyStore> Inbox<S> {
         ensures tried { IsAnsweredWhole (K.checks keys.now) self.old.state request.now (answer_with result) self.new.state (fresh_with result) }
         ensures no_path { segment_of (path_of request.now.target) ≡ None → result ≡ Err Refusal.NoSuchPath }
     {
-        let incoming = Incoming::of(alloc, request, self.own())?;
-        self.try_incoming(alloc, request, &incoming, keys)
+        let delivery = self.receiver.read(alloc, request, keys)?;
+        self.try_delivery(alloc, delivery, keys)
     }
 
-    // Answers a request whose beginning is read.
-    fn try_incoming<K: Keys>(
-        &mut self,
-        alloc: Global,
-        request: &Request,
-        incoming: &Incoming,
-        keys: &K,
-    ) -> Result<Accepted, Refusal>
-        ensures { IsTried (K.checks keys.now) self.old.state
-            (asked (K.checks keys.now) self.old.state.own request.now (heading_of incoming.now)) result self.new.state }
-    {
-        let own = self.own.copy(alloc)?;
-        let signed = Signed {
-            request,
-            header: &incoming.header,
-            own: own.as_str(),
-            keys,
-        };
-        let origin = incoming.header.origin();
-        self.try_answer(alloc, origin, &incoming.txn, request.body(), &signed, keys)
-    }
-
-    // Answers, and leaves the events for the rooms as they were.
-    fn try_answer<K: Keys, V: Vouch>(
+    // The same of a body whose origin is known.
+    fn try_body<K: Keys>(
         &mut self,
         alloc: Global,
         origin: &str,
         txn: &str,
         body: &[u8],
-        voucher: &V,
         keys: &K,
     ) -> Result<Accepted, Refusal>
         ensures tried { IsTried (K.checks keys.now) self.old.state
-            (request_by origin.now txn.now body.now (V.vouches voucher.now)) result self.new.state }
+            (request_of origin.now txn.now body.now) result self.new.state }
         ensures unlisted { log_at origin.now self.old.state.logs ≡ None → result ≡ Err Refusal.ServerNotListed }
         ensures large { IsSome (log_at origin.now self.old.state.logs) → MAX_BODY < length body.now
             → result ≡ Err Refusal.BodyTooLarge }
     {
-        let Some(place) = place_of(&self.logs, origin) else {
+        let delivery = self.receiver.read_body(alloc, origin, txn, body)?;
+        self.try_delivery(alloc, delivery, keys)
+    }
+
+    // The same of what is delivered. What it brings is looked at where no reply is kept for it.
+    fn try_delivery<K: Keys>(
+        &mut self,
+        alloc: Global,
+        delivery: Delivery,
+        keys: &K,
+    ) -> Result<Accepted, Refusal>
+        ensures { IsTriedTake self.old.state (judged_of (K.checks keys.now) self.old.state.rooms (delivered delivery)) result self.new.state }
+    {
+        let Some(place) = place_of(&self.logs, delivery.origin()) else {
             return Err(Refusal::ServerNotListed);
         };
-        let body = read_body(alloc, body)?;
-        if !voucher.vouch(alloc, &body)? {
-            return Err(Refusal::BadSignature);
-        }
-        self.logs[place].answer(alloc, txn, body, &self.rooms, keys, &mut self.store)
+        self.logs[place].answer(alloc, delivery, &self.receiver, keys, &mut self.store)
+    }
+
+    // The same of what is judged.
+    fn try_take(&mut self, alloc: Global, judged: Judged) -> Result<Accepted, Refusal>
+        ensures { IsTriedTake self.old.state (judgement judged) result self.new.state }
+    {
+        let Some(place) = place_of(&self.logs, &judged.origin) else {
+            return Err(Refusal::ServerNotListed);
+        };
+        self.logs[place].take(alloc, judged, &mut self.store)
     }
 }
 

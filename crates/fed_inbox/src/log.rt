@@ -1,24 +1,25 @@
 // What was taken from one origin.
-ghost use Rattle.std.specs.Prelude.{◌≡◌, None, OnOk, OnErr, IfOk};
+ghost use Rattle.std.specs.Prelude.{◌≡◌, [], None, OnOk, OnErr, IfOk, option_map};
 ghost use Rattle.fed_replies.specs.Kept.{reply_at};
 ghost use Rattle.fed_inbox.specs.Taken.{taken_left};
 ghost use Rattle.fed_inbox.specs.Log.{with_replies};
 ghost use Rattle.fed_inbox.specs.LogParts.{nothing_from, KeepsOthers};
-ghost use Rattle.fed_inbox.specs.Answer.{with_taking, names_other};
-ghost use Rattle.fed_inbox.specs.AnswerParts.{IsStep, IsNewStep, taken_by};
-ghost use Rattle.fed_txn.specs.Transaction.{transaction_of};
+ghost use Rattle.fed_inbox.specs.Answer.{with_taking};
+ghost use Rattle.fed_inbox.specs.AnswerParts.{taken_by};
+ghost use Rattle.fed_inbox.specs.Delivery.{judged_of, step_by, step_in};
+ghost use Rattle.fed_inbox.specs.DeliveryParts.{delivered, judgement, IsStepped};
 ghost use Rattle.fed_inbox.specs.OutcomeParts.{taking};
 
+use crate::delivery::{Delivery, Judged};
 use crate::outcome::Outcome;
+use crate::receiver::Receiver;
 use crate::refusal::Refusal;
-use crate::rooms::Rooms;
 use crate::taken::Taken;
 use crate::text_list::TextList;
 use fed_dest::ServerName;
 use fed_event::{Checked, Keys};
-use fed_json::{Json, NoMemory};
+use fed_json::NoMemory;
 use fed_replies::ReplyStore;
-use fed_txn::TransactionIn;
 use std::alloc::Global;
 use std::marker::Model;
 
@@ -77,58 +78,91 @@ impl Log {
         Taken::of(&self.edus)
     }
 
-    /// Answers a transaction of this origin, whose body is this value. A refusal leaves the log and the store as they were. Replies to
-    /// other origins stay in any case.
+    /// Answers a transaction that this origin delivers; what it brings is looked at where no reply is kept for it. A refusal leaves the
+    /// log and the store as they were. Replies to other origins stay in any case.
     pub(crate) fn answer<K: Keys, S: ReplyStore>(
         &mut self,
         alloc: Global,
-        txn: &str,
-        body: Json,
-        rooms: &Rooms,
+        delivery: Delivery,
+        receiver: &Receiver,
         keys: &K,
         store: &mut S,
     ) -> Result<Accepted, Refusal>
-        ensures step { IsStep (K.checks keys.now) rooms.now (with_replies (S.kept store.old) self.old) txn.now body result
+        ensures step { IsStepped (with_replies (S.kept store.old) self.old)
+            (step_in (with_replies (S.kept store.old) self.old) (judged_of (K.checks keys.now) receiver.now.rooms (delivered delivery))) result
             (with_replies (S.kept store.new) self.new) }
         ensures origin { self.new.origin ≡ self.old.origin }
         ensures others { KeepsOthers self.old.origin (S.kept store.old) (S.kept store.new) }
     {
-        if names_other_origin(&body, self.origin()) {
-            return Err(Refusal::OriginDiffers);
+        if let Some(accepted) = self.repeated(alloc, delivery.txn(), store)? {
+            return Ok(accepted);
         }
-        if let Some(reply) = store.get(alloc, self.origin(), txn)? {
-            return Ok(Accepted {
-                reply,
-                fresh: Vec::new(alloc),
-            });
-        }
-        self.answer_new(alloc, txn, body, rooms, keys, store)
+        let judged = receiver.judge(alloc, delivery, keys)?;
+        self.take_new(alloc, judged, store)
     }
 
-    // Answers a transaction for which no reply is kept.
-    fn answer_new<K: Keys, S: ReplyStore>(
+    /// Answers a judged transaction of this origin. A refusal leaves the log and the store as they were. Replies to other origins stay
+    /// in any case.
+    pub(crate) fn take<S: ReplyStore>(
         &mut self,
         alloc: Global,
-        txn: &str,
-        body: Json,
-        rooms: &Rooms,
-        keys: &K,
+        judged: Judged,
         store: &mut S,
     ) -> Result<Accepted, Refusal>
-        requires { reply_at (S.kept store.old) self.old.origin txn.now ≡ None }
-        ensures step { IsNewStep (K.checks keys.now) rooms.now (with_replies (S.kept store.old) self.old) txn.now (transaction_of body) result
+        ensures step { IsStepped (with_replies (S.kept store.old) self.old)
+            (step_in (with_replies (S.kept store.old) self.old) (judgement judged)) result
             (with_replies (S.kept store.new) self.new) }
         ensures origin { self.new.origin ≡ self.old.origin }
         ensures others { KeepsOthers self.old.origin (S.kept store.old) (S.kept store.new) }
     {
-        let transaction = TransactionIn::of_json(alloc, body)?;
-        let outcome = Outcome::of(alloc, transaction, rooms, keys)?;
-        Ok(self.take(alloc, txn, outcome, store)?)
+        if let Some(accepted) = self.repeated(alloc, &judged.txn, store)? {
+            return Ok(accepted);
+        }
+        self.take_new(alloc, judged, store)
     }
 
-    /// Takes what a transaction came to and keeps its reply; answers that and the events for the rooms. An error leaves the log and the
-    /// store as they were.
-    pub(crate) fn take<S: ReplyStore>(
+    // The kept reply to a transaction of this origin.
+    fn repeated<S: ReplyStore>(
+        &self,
+        alloc: Global,
+        txn: &str,
+        store: &S,
+    ) -> Result<Option<Accepted>, NoMemory>
+        ensures { IfOk result (λ accepted. option_map taken_by accepted ≡ option_map (λ reply. (reply, [])) (reply_at (S.kept store.now) self.now.origin txn.now)) }
+    {
+        if let Some(reply) = store.get(alloc, self.origin(), txn)? {
+            return Ok(Some(Accepted {
+                reply,
+                fresh: Vec::new(alloc),
+            }));
+        }
+        Ok(None)
+    }
+
+    // Answers a judged transaction for which no reply is kept.
+    fn take_new<S: ReplyStore>(
+        &mut self,
+        alloc: Global,
+        judged: Judged,
+        store: &mut S,
+    ) -> Result<Accepted, Refusal>
+        requires { reply_at (S.kept store.old) self.old.origin (judgement judged).txn ≡ None }
+        ensures step { IsStepped (with_replies (S.kept store.old) self.old)
+            (step_by (with_replies (S.kept store.old) self.old) (judgement judged).txn (judgement judged).comes_to) result
+            (with_replies (S.kept store.new) self.new) }
+        ensures origin { self.new.origin ≡ self.old.origin }
+        ensures others { KeepsOthers self.old.origin (S.kept store.old) (S.kept store.new) }
+    {
+        let Judged { txn, comes_to, .. } = judged;
+        match comes_to {
+            Ok(outcome) => Ok(self.keep(alloc, &txn, outcome, store)?),
+            Err(refusal) => Err(refusal),
+        }
+    }
+
+    // Takes what a transaction came to and keeps its reply; answers that and the events for the rooms. An error leaves the log and the
+    // store as they were.
+    fn keep<S: ReplyStore>(
         &mut self,
         alloc: Global,
         txn: &str,
@@ -158,13 +192,4 @@ impl Log {
         self.edus.push(edus).unwrap();
         Ok(Accepted { reply, fresh })
     }
-}
-
-// Whether the body has a text `origin` that is not this one.
-fn names_other_origin(body: &Json, origin: &str) -> bool
-    ensures { result ≡ names_other body.now origin.now }
-{
-    body.member("origin")
-        .and_then(|part| part.text())
-        .is_some_and(|named| named != origin)
 }
