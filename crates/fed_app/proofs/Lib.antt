@@ -1,4 +1,3 @@
-pub mod Writes
 pub mod WordLemmas
 pub mod LineLemmas
 pub mod Limit

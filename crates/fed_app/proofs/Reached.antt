@@ -11,13 +11,14 @@ use Rattle.fed_inbox.specs.Answer.{Request, IsAnswered}
 use Rattle.fed_app.specs.Words.{words_of}
 use Rattle.fed_app.specs.Lines.{words_in, wrong_line}
 use Rattle.fed_app.specs.Output.{line_of, output_of}
-use Rattle.fed_app.specs.Ends.{AppendsFront, IsWritten, IsCut, IsEnd}
+use Rattle.fed_app.specs.Ends.{IsWritten, IsCut, IsEnd}
 use Rattle.fed_app.specs.Steps.{TakesFirst}
 use Rattle.fed_app.specs.Fault.{IsFaultOf}
 use Rattle.fed_app.specs.declared.fault.RunFault.{RunFault}
 use Rattle.fed_app.specs.declared.fault.RunFault.TheVariants.{Memory, WrongWords, Io}
 use Rattle.std.specs.declared.io.ErrorKind.{ErrorKind}
-use Rattle.fed_app.proofs.Writes.{appends_none, appends_both}
+use Rattle.fed_http.proofs.Writes.{appends_none, appends_both}
+use Rattle.fed_http.specs.Sending.{AppendsFront}
 
 -- the output so far, followed by that of what is left, is the whole output; and line `number` is the next one
 pub record Reached (start : InboxState) (words : List (Option Request)) (before now : Option (List ℕ)) (inbox : InboxState) (left : Option (List ℕ)) (number : ℕ) : Type 0 where

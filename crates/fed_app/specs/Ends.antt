@@ -1,16 +1,13 @@
 -- How a run ends: what was written, by the result.
 use Rattle.std.specs.Prelude.{◌≡◌, ℕ, List, ◌++◌, Bool, Option, Some, None, Result, Ok, Err}
 use Rattle.std.specs.Io.KnownBytes.{Appends}
+use Rattle.fed_http.specs.Sending.{AppendsFront}
 use Rattle.fed_inbox.specs.Inbox.{InboxState}
 use Rattle.fed_inbox.specs.Answer.{Request}
 use Rattle.fed_app.specs.Lines.{wrong_line}
 use Rattle.fed_app.specs.Output.{output_of}
 use Rattle.fed_app.specs.declared.fault.RunFault.{RunFault}
 use Rattle.fed_app.specs.declared.fault.RunFault.TheVariants.{Memory, WrongWords, Io}
-
--- these bytes and no others were written, or a front of them
-abbrev pub AppendsFront : Option (List ℕ) → Option (List ℕ) → List ℕ → Type 0
-AppendsFront old new bytes = (front : List ℕ) × (rest : List ℕ) × (bytes ≡ front ++ rest) × Appends old new front
 
 -- the whole output was written, by some marks
 abbrev pub IsWritten : InboxState → List (Option Request) → Option (List ℕ) → Option (List ℕ) → Type 0

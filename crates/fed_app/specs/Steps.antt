@@ -1,8 +1,6 @@
--- What reading one line and writing one line do.
+-- What reading one line does.
 use Rattle.std.specs.Prelude.{⊤, ◌≡◌, ℕ, List, [], ◌∷◌, Bool, true, false, Option, Some, Result, Ok, Err}
-use Rattle.std.specs.Io.KnownBytes.{Appends}
 use Rattle.fed_app.specs.Lines.{lines_of}
-use Rattle.fed_app.specs.Ends.{AppendsFront}
 
 -- the first line was taken, and these bytes are left
 abbrev pub TakesFirst : List ℕ → Option (List ℕ) → List ℕ → Type 0
@@ -13,8 +11,3 @@ abbrev pub TakesLine : {E : Type 0} → List ℕ → Option (List ℕ) → List 
 TakesLine bytes left line (Ok true) = TakesFirst bytes left line
 TakesLine bytes left line (Ok false) = bytes ≡ []
 TakesLine bytes left line (Err error) = ⊤
-
--- all of it was written, or on an error a front of it
-abbrev pub WritesLine : {T E : Type 0} → Option (List ℕ) → Option (List ℕ) → List ℕ → Result T E → Type 0
-WritesLine old new line (Ok done) = Appends old new line
-WritesLine old new line (Err error) = AppendsFront old new line

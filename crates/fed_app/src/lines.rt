@@ -1,23 +1,24 @@
 // Lines of transactions in, lines of replies out.
 ghost use Rattle.std.specs.Prelude.{◌≡◌, ◌++◌, ◌<◌, ◌≤◌, ◌*◌, ◌^◌, length, OnOk, IfSome};
+ghost use Rattle.fed_http.specs.Sending.{WritesWhole};
 ghost use Rattle.fed_app.specs.Input.{left_of, room_of};
 ghost use Rattle.fed_app.specs.Lines.{words_in};
 ghost use Rattle.fed_app.specs.Output.{line_of};
 ghost use Rattle.fed_app.specs.Ends.{IsEnd};
 ghost use Rattle.fed_app.specs.Setup.{first_inbox};
-ghost use Rattle.fed_app.specs.Steps.{WritesLine};
 
 use crate::fault::RunFault;
 use crate::input::Input;
 use crate::setup::InboxSetup;
 use crate::words::words_of;
 use fed_event::Trusting;
+use fed_http::write_whole;
 use fed_inbox::{Inbox, Reply};
 use fed_json::NoMemory;
 use fed_replies::ListStore;
 use std::alloc::Global;
 use std::io;
-use std::io::{ErrorKind, Read, Write};
+use std::io::{Read, Write};
 
 /// How often the input is read at most.
 pub const MAX_READS: u64 = 40_000_000;
@@ -83,7 +84,7 @@ fn answer_lines<R: Read, W: Write>(
 
 // Writes and flushes the line of a reply. `out` is room for it.
 fn write_reply<W: Write>(writer: &mut W, out: &mut Vec<u8>, reply: &Reply) -> io::Result<()>
-    ensures { WritesLine (W.contents writer.old) (W.contents writer.new) (line_of reply.now) result }
+    ensures { WritesWhole (W.contents writer.old) (W.contents writer.new) (line_of reply.now) result }
 {
     out.clear();
     append_line(out, reply)?;
@@ -101,27 +102,4 @@ fn append_line(out: &mut Vec<u8>, reply: &Reply) -> Result<(), NoMemory>
     out.extend_from_slice(reply.body())?;
     out.push(b'\n')?;
     Ok(())
-}
-
-/// Writes all the bytes. Where a write fails, the writes before it wrote a front of them, which `write_all` doesn't say. A turn writes
-/// a byte or is interrupted, and no writer is interrupted so often that the loop ends without an answer.
-pub(crate) fn write_whole<W: Write>(writer: &mut W, bytes: &[u8]) -> io::Result<()>
-    ensures { WritesLine (W.contents writer.old) (W.contents writer.new) bytes.now result }
-{
-    let mut rest = bytes;
-    for _ in 0..u64::MAX {
-        if rest.is_empty() {
-            return Ok(());
-        }
-        match writer.write(rest) {
-            Ok(0) => return Err(io::Error::from(ErrorKind::WriteZero)),
-            Ok(written) => rest = &rest[written..],
-            Err(error) => {
-                if error.kind() != ErrorKind::Interrupted {
-                    return Err(error);
-                }
-            }
-        }
-    }
-    Err(io::Error::from(ErrorKind::TimedOut))
 }

@@ -3,9 +3,10 @@ ghost use Rattle.std.specs.Prelude.{◌≤◌, ◌*◌, length, OnOk, IfSome};
 ghost use Rattle.fed_app.specs.Input.{left_of, room_of};
 
 use crate::input::Input;
-use crate::lines::{MAX_READS, write_whole};
+use crate::lines::MAX_READS;
 use crate::sim_fault::SimRunFault;
 use crate::sim_lines::append_outcome;
+use fed_http::write_whole;
 use fed_json::NoMemory;
 use fed_sim::{World, read_script};
 use std::alloc::Global;

@@ -1,5 +1,6 @@
 // The texts of what steps of a world answer.
 use fed_dest::{ServerName, ServerSet};
+use fed_journal::EduFault;
 use fed_json::NoMemory;
 use fed_outbox::Settlement;
 use fed_room_contract::{Receipt, Refusal, Verdict};
@@ -119,9 +120,9 @@ fn append_not_made(out: &mut String, refusal: Refusal) -> Result<(), NoMemory> {
 // Why an ephemeral data unit was not sent.
 fn append_edu_refusal(out: &mut String, refusal: EduRefusal) -> Result<(), NoMemory> {
     match refusal {
-        EduRefusal::BadEdu => out.push_str("refused bad edu"),
-        EduRefusal::TooLarge => out.push_str("refused edu too large"),
-        EduRefusal::TooDeep => out.push_str("refused edu too deep"),
+        EduRefusal::NotEdu(EduFault::BadEdu) => out.push_str("refused bad edu"),
+        EduRefusal::NotEdu(EduFault::TooLarge) => out.push_str("refused edu too large"),
+        EduRefusal::NotEdu(EduFault::TooDeep) => out.push_str("refused edu too deep"),
         EduRefusal::Limit => out.push_str("refused limit"),
     }
 }

@@ -10,16 +10,16 @@ use Rattle.fed_event.specs.Fields.{room_id_of}
 use Rattle.fed_event.specs.Tests.{holds}
 use Rattle.fed_dest.specs.List.{place_of}
 use Rattle.fed_sim.specs.Hosted.{HostedState, arrivals_of}
-use Rattle.fed_sim.specs.Taking.{for_place, arrivals_from}
+use Rattle.fed_inbox.specs.Queues.{for_place, queues_from}
 
 module _ (known : List (List ℕ)) where
-  pub nothing_arrives : (n : ℕ) (queues : List (List CheckedEvent)) → arrivals_from n known [] queues ≡ queues
+  pub nothing_arrives : (n : ℕ) (queues : List (List CheckedEvent)) → queues_from n known [] queues ≡ queues
   nothing_arrives n [] = refl
   nothing_arrives n (queue ∷ queues) = λ i. append-nil queue i ∷ nothing_arrives (n + 1) queues i
 
   not_here : (n : ℕ) (event : CheckedEvent) (later : List CheckedEvent) (queues : List (List CheckedEvent))
       → ((k : ℕ) → k < length queues → holds (λ place. place == n + k) (place_of known (room_id_of event.event)) ≡ false)
-      → arrivals_from n known (event ∷ later) queues ≡ arrivals_from n known later queues
+      → queues_from n known (event ∷ later) queues ≡ queues_from n known later queues
   not_here n event later [] apart = refl
   not_here n event later (queue ∷ queues) apart =
       let zeroth : n + 0 ≡ n = omega arith in
@@ -35,7 +35,7 @@ module _ (known : List (List ℕ)) where
 
   one_arrives : (n : ℕ) (event : CheckedEvent) (later : List CheckedEvent) (queues : List (List CheckedEvent)) (k : ℕ) (queue : List CheckedEvent)
       → place_of known (room_id_of event.event) ≡ Some (n + k) → slice_get queues k ≡ Some queue
-      → arrivals_from n known later (set queues k (queue ++ event ∷ [])) ≡ arrivals_from n known (event ∷ later) queues
+      → queues_from n known later (set queues k (queue ++ event ∷ [])) ≡ queues_from n known (event ∷ later) queues
   one_arrives n event later [] k queue is here = absurd (none-some queue here)
   one_arrives n event later (x ∷ xs) zero queue is here =
       let same : x ≡ queue = same_Some x queue here in
@@ -43,7 +43,7 @@ module _ (known : List (List ℕ)) where
       let now : (queue ++ event ∷ []) ++ for_place known n later ≡ x ++ for_place known n (event ∷ later) =
       ap (λ q. (q ++ event ∷ []) ++ for_place known n later) (sym same) ∙ append_assoc x (event ∷ []) (for_place known n later)
       ∙ ap (λ (b : Bool). x ++ (if b then event ∷ for_place known n later else for_place known n later)) (sym this) in
-      let rest : arrivals_from (n + 1) known later xs ≡ arrivals_from (n + 1) known (event ∷ later) xs =
+      let rest : queues_from (n + 1) known later xs ≡ queues_from (n + 1) known (event ∷ later) xs =
       sym (not_here (n + 1) event later xs (λ k below. at_its_place (n + 0) (n + 1 + k) _ is ∙ ne_eqb _ _ (λ e. absurd (omega (arith, e))))) in
       λ i. now i ∷ rest i
   one_arrives n event later (x ∷ xs) (suc k) queue is here =
@@ -55,17 +55,17 @@ module _ (known : List (List ℕ)) where
   -- an event gets in front of its room
   pub arrives_here : (event : CheckedEvent) (later : List CheckedEvent) (rooms : List HostedState) (k : ℕ) (room new : HostedState)
       → place_of known (room_id_of event.event) ≡ Some k → slice_get rooms k ≡ Some room → new.queue ≡ room.queue ++ event ∷ []
-      → arrivals_from 0 known later (arrivals_of (set rooms k new)) ≡ arrivals_from 0 known (event ∷ later) (arrivals_of rooms)
+      → queues_from 0 known later (arrivals_of (set rooms k new)) ≡ queues_from 0 known (event ∷ later) (arrivals_of rooms)
   arrives_here event later rooms k room new is here gives =
       let at : k ≡ 0 + k = omega arith in
-      ap (arrivals_from 0 known later) (map-set (λ (h : HostedState). h.queue) rooms k new ∙ ap (set (arrivals_of rooms) k) gives)
+      ap (queues_from 0 known later) (map-set (λ (h : HostedState). h.queue) rooms k new ∙ ap (set (arrivals_of rooms) k) gives)
       ∙ one_arrives 0 event later (arrivals_of rooms) k room.queue (is ∙ ap Some at)
       (slice_get-map (λ (h : HostedState). h.queue) rooms k ∙ ap (option_map (λ (h : HostedState). h.queue)) here)
 
   -- an event has no room here
   pub arrives_nowhere : (event : CheckedEvent) (later : List CheckedEvent) (queues : List (List CheckedEvent)) (n p : ℕ)
       → p ≡ unwrap_or (place_of known (room_id_of event.event)) n → n ≡ length queues → n ≤ p
-      → arrivals_from 0 known later queues ≡ arrivals_from 0 known (event ∷ later) queues
+      → queues_from 0 known later queues ≡ queues_from 0 known (event ∷ later) queues
   arrives_nowhere event later queues n p is all past = sym (not_here 0 event later queues (λ k below. by k (place_of known (room_id_of event.event)) is (omega (arith, below, all))))
     where
       by : (k : ℕ) (o : Option ℕ) → p ≡ unwrap_or o n → k < n → holds (λ place. place == 0 + k) o ≡ false

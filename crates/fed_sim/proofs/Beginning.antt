@@ -14,11 +14,11 @@ use Rattle.std.proofs.lemmas.Slice.Eq.{bytes_eq-Decides}
 use Rattle.fed_dest.specs.ListParts.{AreInOrder}
 use Rattle.fed_dest.proofs.Halving.{less_tested}
 use Rattle.fed_inbox.specs.Inbox.{log_at, new_log, logs_for}
-use Rattle.fed_outbox.specs.Collecting.{Lane}
+use Rattle.fed_outbox.specs.Collecting.{Way}
 use Rattle.fed_replies.specs.Kept.{KeptReplies}
 use Rattle.fed_replies.proofs.Kept.{none_of_empty}
 use Rattle.fed_sim.specs.declared.setup.Setup.{Setup}
-use Rattle.fed_sim.specs.Link.{new_lane}
+use Rattle.fed_sim.specs.Way.{new_way}
 use Rattle.fed_sim.specs.NewServer.{new_server}
 use Rattle.fed_sim.specs.Packets.{packet_at}
 use Rattle.fed_sim.specs.Running.{Begins, IsBeginning}
@@ -92,7 +92,7 @@ no_packets : (k : ℕ) (p : PacketState) → packet_at [] k ≡ Some p → ⊥
 no_packets zero p e = not_none p e
 no_packets (suc k) p e = not_none p e
 
-fresh_lands : (o d epoch : ℕ) (name other : List ℕ) → Lands o d epoch name other (sent_of (new_lane d).outbox) (new_log finite.empty name) []
+fresh_lands : (o d epoch : ℕ) (name other : List ℕ) → Lands o d epoch name other (sent_of (new_way d).outbox) (new_log finite.empty name) []
 fresh_lands o d epoch name other = record {
   pdus = refl;
   edus = refl;
@@ -103,7 +103,7 @@ fresh_lands o d epoch name other = record {
   replied = λ n body e. absurd (not_none body (sym (nothing_kept name epoch n) ∙ e));
 }
 
-fresh_held : (o d epoch : ℕ) (name other : List ℕ) → IsHeld o d epoch name other [] (new_lane d) (new_log finite.empty name) []
+fresh_held : (o d epoch : ℕ) (name other : List ℕ) → IsHeld o d epoch name other [] (new_way d) (new_log finite.empty name) []
 fresh_held o d epoch name other = record {
   sound = All-nil IsSoundEdu;
   follows = record { collected = []; all = refl; dest = refl; events = refl; edus = refl; next = refl; end = refl };
@@ -112,10 +112,10 @@ fresh_held o d epoch name other = record {
 
 -- ---- the ways
 
-lane_is : (n count d : ℕ) (lane : Lane) → slice_get (map new_lane (range_with_len n count)) d ≡ Some lane → lane ≡ new_lane (n + d)
+lane_is : (n count d : ℕ) (lane : Way) → slice_get (map new_way (range_with_len n count)) d ≡ Some lane → lane ≡ new_way (n + d)
 lane_is n zero d lane e = absurd (not_none lane e)
-lane_is n (suc count) zero lane e = let at : n ≡ n + 0 = omega arith in sym (same_some (new_lane n) lane e) ∙ ap new_lane at
-lane_is n (suc count) (suc d) lane e = let at : n + 1 + d ≡ n + suc d = omega arith in lane_is (n + 1) count d lane e ∙ ap new_lane at
+lane_is n (suc count) zero lane e = let at : n ≡ n + 0 = omega arith in sym (same_some (new_way n) lane e) ∙ ap new_way at
+lane_is n (suc count) (suc d) lane e = let at : n + 1 + d ≡ n + suc d = omega arith in lane_is (n + 1) count d lane e ∙ ap new_way at
 
 -- ---- the world
 
@@ -136,23 +136,23 @@ begins_sound setup w b = record {
           name_is = is.new.name_is;
           named = is.new.named;
           inbox_own = refl;
-          lanes = length-map (range_with_len 0 (length w.names)) new_lane ∙ length-range_with_len 0 (length w.names) ∙ sym b.count;
+          ways = length-map (range_with_len 0 (length w.names)) new_way ∙ length-range_with_len 0 (length w.names) ∙ sym b.count;
         })
 
-    pair : (o d : ℕ) (os ds : ServerState) (lane : Lane) → IsBeginning w.names w.known setup.rooms.items o os → IsBeginning w.names w.known setup.rooms.items d ds → way_to os d ≡ Some lane
+    pair : (o d : ℕ) (os ds : ServerState) (lane : Way) → IsBeginning w.names w.known setup.rooms.items o os → IsBeginning w.names w.known setup.rooms.items d ds → way_to os d ≡ Some lane
         → IsBetween o d w.epoch os ds lane w.packets
     pair o d os ds lane of to way =
         let a = of.new in
         let c = to.new in
         let there = way_there (new_server w.names w.known o a.name of.hosted) d lane (ap (λ s. way_to s d) (sym a.is) ∙ way) in
         let at : 0 + d ≡ d = omega arith in
-        let is : lane ≡ new_lane d = lane_is 0 (length w.names) d lane there.is ∙ ap new_lane at in
+        let is : lane ≡ new_way d = lane_is 0 (length w.names) d lane there.is ∙ ap new_way at in
         let apart : a.name ≢ c.name = λ e. there.apart (each_once w.names b.order d o a.name (c.name_is ∙ ap Some (sym e)) a.name_is) in
-        let new : IsBetween o d w.epoch (new_server w.names w.known o a.name of.hosted) (new_server w.names w.known d c.name to.hosted) (new_lane d) [] = record {
+        let new : IsBetween o d w.epoch (new_server w.names w.known o a.name of.hosted) (new_server w.names w.known d c.name to.hosted) (new_way d) [] = record {
           log = new_log finite.empty a.name;
           log_is = log_there finite.empty w.names c.name a.name o apart a.name_is;
           held = fresh_held o d w.epoch a.name c.name;
         } in
         subst (λ x. IsBetween o d w.epoch x ds lane w.packets) (sym a.is) (subst (λ y. IsBetween o d w.epoch (new_server w.names w.known o a.name of.hosted) y lane w.packets) (sym c.is)
         (subst (λ l. IsBetween o d w.epoch (new_server w.names w.known o a.name of.hosted) (new_server w.names w.known d c.name to.hosted) l w.packets) (sym is)
-        (subst (IsBetween o d w.epoch (new_server w.names w.known o a.name of.hosted) (new_server w.names w.known d c.name to.hosted) (new_lane d)) (sym b.packets) new)))
+        (subst (IsBetween o d w.epoch (new_server w.names w.known o a.name of.hosted) (new_server w.names w.known d c.name to.hosted) (new_way d)) (sym b.packets) new)))

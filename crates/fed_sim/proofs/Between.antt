@@ -6,7 +6,7 @@ use Rattle.std.proofs.lemmas.List.{length-set}
 use Rattle.fed_dest.specs.ServerName.{IsServerName}
 use Rattle.fed_inbox.specs.Log.{LogState}
 use Rattle.fed_inbox.specs.Inbox.{log_at}
-use Rattle.fed_outbox.specs.Collecting.{Lane}
+use Rattle.fed_outbox.specs.Collecting.{Way}
 use Rattle.fed_sim.specs.Server.{ServerState}
 use Rattle.fed_sim.specs.Packets.{packet_at}
 use Rattle.fed_sim.specs.Ways.{has_way, way_to, with_way}
@@ -40,14 +40,14 @@ pub record IsServerAt (names : List (List ℕ)) (count k : ℕ) (s : ServerState
   pub name_is : slice_get names k ≡ Some s.name
   pub named : IsServerName s.name
   pub inbox_own : s.inbox.own ≡ s.name
-  pub lanes : length s.lanes ≡ count
+  pub ways : length s.ways ≡ count
 
 pub record IsWay (count server dest : ℕ) : Type 0 where
   pub from : server < count
   pub to : dest < count
   pub apart : dest ≢ server
 
-pub record IsBetween (o d epoch : ℕ) (os ds : ServerState) (lane : Lane) (packets : List PacketState) : Type 0 where
+pub record IsBetween (o d epoch : ℕ) (os ds : ServerState) (lane : Way) (packets : List PacketState) : Type 0 where
   pub log : LogState
   pub log_is : log_at os.name ds.inbox.logs ≡ Some log
   pub held : IsHeld o d epoch os.name ds.name os.journal lane log packets
@@ -57,12 +57,12 @@ pub record IsSound (w : WorldState) : Type 0 where
   pub moment : w.now ≤ max_moment
   pub servers : (k : ℕ) (s : ServerState) → slice_get w.servers k ≡ Some s → IsServerAt w.names (length w.servers) k s
   pub ways : (k server dest n : ℕ) (bytes : List ℕ) → packet_at w.packets k ≡ Some (request server dest n bytes) → IsWay (length w.servers) server dest
-  pub pairs : (o d : ℕ) (os ds : ServerState) (lane : Lane) → slice_get w.servers o ≡ Some os → slice_get w.servers d ≡ Some ds → way_to os d ≡ Some lane
+  pub pairs : (o d : ℕ) (os ds : ServerState) (lane : Way) → slice_get w.servers o ≡ Some os → slice_get w.servers d ≡ Some ds → way_to os d ≡ Some lane
       → IsBetween o d w.epoch os ds lane w.packets
 
 -- ---- ways
 
-way_test : (b : Bool) (found : Option Lane) (lane : Lane) → cond b found None ≡ Some lane → (b ≡ true) × (found ≡ Some lane)
+way_test : (b : Bool) (found : Option Way) (lane : Way) → cond b found None ≡ Some lane → (b ≡ true) × (found ≡ Some lane)
 way_test true found lane e = (refl, e)
 way_test false found lane e = absurd (not_none lane e)
 
@@ -70,27 +70,27 @@ both_true : (a b : Bool) → (a && b) ≡ true → (a ≡ true) × (b ≡ true)
 both_true true b h = (refl, h)
 both_true false b h = absurd (true≢false (sym h))
 
-pub record WayTo (s : ServerState) (d : ℕ) (lane : Lane) : Type 0 where
+pub record WayTo (s : ServerState) (d : ℕ) (lane : Way) : Type 0 where
   pub apart : d ≢ s.own
-  pub within : nat_lt d (length s.lanes) ≡ true
-  pub is : slice_get s.lanes d ≡ Some lane
+  pub within : nat_lt d (length s.ways) ≡ true
+  pub is : slice_get s.ways d ≡ Some lane
 
-pub way_there : (s : ServerState) (d : ℕ) (lane : Lane) → way_to s d ≡ Some lane → WayTo s d lane
+pub way_there : (s : ServerState) (d : ℕ) (lane : Way) → way_to s d ≡ Some lane → WayTo s d lane
 way_there s d lane e =
-    let test = way_test (has_way s d) (slice_get s.lanes d) lane e in
-    let both = both_true (not (d == s.own)) (nat_lt d (length s.lanes)) test.0 in
+    let test = way_test (has_way s d) (slice_get s.ways d) lane e in
+    let both = both_true (not (d == s.own)) (nat_lt d (length s.ways)) test.0 in
     record { apart = λ same. differs (d == s.own) (eq-eqb d s.own same) both.0; within = both.1; is = test.1 }
   where
     differs : (b : Bool) → b ≡ true → not b ≡ true → ⊥
     differs true is other = true≢false (sym other)
     differs false is other = true≢false (sym is)
 
-pub there_way : (s : ServerState) (d : ℕ) (lane : Lane) → WayTo s d lane → way_to s d ≡ Some lane
+pub there_way : (s : ServerState) (d : ℕ) (lane : Way) → WayTo s d lane → way_to s d ≡ Some lane
 there_way s d lane way = by (d == s.own) refl
   where
-    by : (b : Bool) → (d == s.own) ≡ b → (if not b && nat_lt d (length s.lanes) then slice_get s.lanes d else None) ≡ Some lane
+    by : (b : Bool) → (d == s.own) ≡ b → (if not b && nat_lt d (length s.ways) then slice_get s.ways d else None) ≡ Some lane
     by true is = absurd (way.apart (eqb-true d s.own is))
-    by false is = ap (λ b. if b then slice_get s.lanes d else None) way.within ∙ way.is
+    by false is = ap (λ b. if b then slice_get s.ways d else None) way.within ∙ way.is
 
 -- ---- one server is another
 
@@ -99,10 +99,10 @@ module _ (w : WorldState) (p : ℕ) (before : ServerState) (at : slice_get w.ser
     pub own : after.own ≡ before.own
     pub name : after.name ≡ before.name
     pub inbox : after.inbox ≡ before.inbox
-    pub lanes : length after.lanes ≡ length before.lanes
+    pub ways : length after.ways ≡ length before.ways
 
   pub changed : (after : ServerState) → Stays after
-      → ((d : ℕ) (ds : ServerState) (lane : Lane) → slice_get w.servers d ≡ Some ds → way_to after d ≡ Some lane → IsBetween p d w.epoch after ds lane w.packets)
+      → ((d : ℕ) (ds : ServerState) (lane : Way) → slice_get w.servers d ≡ Some ds → way_to after d ≡ Some lane → IsBetween p d w.epoch after ds lane w.packets)
       → IsSound (with_server w p after)
   changed after stays from = record {
     distinct = h.distinct;
@@ -124,7 +124,7 @@ module _ (w : WorldState) (p : ℕ) (before : ServerState) (at : slice_get w.ser
         name_is = old.name_is ∙ ap Some (sym stays.name);
         named = subst IsServerName (sym stays.name) old.named;
         inbox_own = ap (λ i. i.own) stays.inbox ∙ old.inbox_own ∙ sym stays.name;
-        lanes = stays.lanes ∙ old.lanes;
+        ways = stays.ways ∙ old.ways;
       }
 
       server : (k : ℕ) (s : ServerState) → ((k ≡ p) × (after ≡ s)) ⊎ ((k ≢ p) × (slice_get w.servers k ≡ Some s)) → IsServerAt w.names (length (set w.servers p after)) k s
@@ -134,14 +134,14 @@ module _ (w : WorldState) (p : ℕ) (before : ServerState) (at : slice_get w.ser
       counted : (a b : ℕ) → IsWay (length w.servers) a b → IsWay (length (set w.servers p after)) a b
       counted a b way = subst (λ n. IsWay n a b) (sym count) way
 
-      receives : (o : ℕ) (os : ServerState) (lane : Lane) → IsBetween o p w.epoch os before lane w.packets → IsBetween o p w.epoch os after lane w.packets
+      receives : (o : ℕ) (os : ServerState) (lane : Way) → IsBetween o p w.epoch os before lane w.packets → IsBetween o p w.epoch os after lane w.packets
       receives o os lane b = record {
         log = b.log;
         log_is = ap (λ i. log_at os.name i.logs) stays.inbox ∙ b.log_is;
         held = subst (λ x. IsHeld o p w.epoch os.name x os.journal lane b.log w.packets) (sym stays.name) b.held;
       }
 
-      pair : (o d : ℕ) (os ds : ServerState) (lane : Lane) → ((o ≡ p) × (after ≡ os)) ⊎ ((o ≢ p) × (slice_get w.servers o ≡ Some os)) → ((d ≡ p) × (after ≡ ds)) ⊎ ((d ≢ p) × (slice_get w.servers d ≡ Some ds))
+      pair : (o d : ℕ) (os ds : ServerState) (lane : Way) → ((o ≡ p) × (after ≡ os)) ⊎ ((o ≢ p) × (slice_get w.servers o ≡ Some os)) → ((d ≡ p) × (after ≡ ds)) ⊎ ((d ≢ p) × (slice_get w.servers d ≡ Some ds))
           → way_to os d ≡ Some lane → IsBetween o d w.epoch os ds lane w.packets
       pair o d os ds lane (inl (here, is)) (inl (there, is_too)) way =
           absurd ((way_there os d lane way).apart (there ∙ sym (ap (λ s. s.own) (sym is) ∙ now.own)))
@@ -154,15 +154,15 @@ module _ (w : WorldState) (p : ℕ) (before : ServerState) (at : slice_get w.ser
       pair o d os ds lane (inr (elsewhere, of)) (inr (elsewhere_too, to)) way = h.pairs o d os ds lane of to way
 
   -- nothing that counts here has changed
-  pub changed_elsewhere : (after : ServerState) → Stays after → after.journal ≡ before.journal → after.lanes ≡ before.lanes → IsSound (with_server w p after)
+  pub changed_elsewhere : (after : ServerState) → Stays after → after.journal ≡ before.journal → after.ways ≡ before.ways → IsSound (with_server w p after)
   changed_elsewhere after stays journal lanes = changed after stays (λ d ds lane to way. again d ds lane (h.pairs p d before ds lane at to (same_way d lane way)))
     where
-      same_way : (d : ℕ) (lane : Lane) → way_to after d ≡ Some lane → way_to before d ≡ Some lane
+      same_way : (d : ℕ) (lane : Way) → way_to after d ≡ Some lane → way_to before d ≡ Some lane
       same_way d lane way =
           let is = way_there after d lane way in
           there_way before d lane (record { apart = λ e. is.apart (e ∙ sym stays.own); within = ap (λ l. nat_lt d (length l)) (sym lanes) ∙ is.within; is = ap (λ l. slice_get l d) (sym lanes) ∙ is.is })
 
-      again : (d : ℕ) (ds : ServerState) (lane : Lane) → IsBetween p d w.epoch before ds lane w.packets → IsBetween p d w.epoch after ds lane w.packets
+      again : (d : ℕ) (ds : ServerState) (lane : Way) → IsBetween p d w.epoch before ds lane w.packets → IsBetween p d w.epoch after ds lane w.packets
       again d ds lane b = record {
         log = b.log;
         log_is = ap (λ x. log_at x ds.inbox.logs) stays.name ∙ b.log_is;
@@ -170,30 +170,30 @@ module _ (w : WorldState) (p : ℕ) (before : ServerState) (at : slice_get w.ser
       }
 
   -- one of its ways is another
-  pub way_changed : (d : ℕ) (old new : Lane) → way_to before d ≡ Some old
+  pub way_changed : (d : ℕ) (old new : Way) → way_to before d ≡ Some old
       → ((ds : ServerState) → slice_get w.servers d ≡ Some ds → (log : LogState) → log_at before.name ds.inbox.logs ≡ Some log → IsHeld p d w.epoch before.name ds.name before.journal old log w.packets
       → IsHeld p d w.epoch before.name ds.name before.journal new log w.packets)
       → IsSound (with_server w p (with_way before d new))
   way_changed d old new there moves = changed (with_way before d new) stays (λ x ds lane to way. by x ds lane to (way_there (with_way before d new) x lane way) (which x ds lane (way_there (with_way before d new) x lane way)))
     where
       stays : Stays (with_way before d new)
-      stays = record { own = refl; name = refl; inbox = refl; lanes = length-set before.lanes d new }
+      stays = record { own = refl; name = refl; inbox = refl; ways = length-set before.ways d new }
 
-      which : (x : ℕ) (ds : ServerState) (lane : Lane) → WayTo (with_way before d new) x lane → ((x ≡ d) × (new ≡ lane)) ⊎ ((x ≢ d) × (slice_get before.lanes x ≡ Some lane))
-      which x ds lane way = set_or_other before.lanes d new x lane way.is
+      which : (x : ℕ) (ds : ServerState) (lane : Way) → WayTo (with_way before d new) x lane → ((x ≡ d) × (new ≡ lane)) ⊎ ((x ≢ d) × (slice_get before.ways x ≡ Some lane))
+      which x ds lane way = set_or_other before.ways d new x lane way.is
 
       moved : (ds : ServerState) → slice_get w.servers d ≡ Some ds → IsBetween p d w.epoch before ds old w.packets → IsBetween p d w.epoch (with_way before d new) ds new w.packets
       moved ds to b = record { log = b.log; log_is = b.log_is; held = moves ds to b.log b.log_is b.held }
 
-      kept : (x : ℕ) (ds : ServerState) (lane : Lane) → IsBetween p x w.epoch before ds lane w.packets → IsBetween p x w.epoch (with_way before d new) ds lane w.packets
+      kept : (x : ℕ) (ds : ServerState) (lane : Way) → IsBetween p x w.epoch before ds lane w.packets → IsBetween p x w.epoch (with_way before d new) ds lane w.packets
       kept x ds lane b = record { log = b.log; log_is = b.log_is; held = b.held }
 
-      by : (x : ℕ) (ds : ServerState) (lane : Lane) → slice_get w.servers x ≡ Some ds → WayTo (with_way before d new) x lane
-          → ((x ≡ d) × (new ≡ lane)) ⊎ ((x ≢ d) × (slice_get before.lanes x ≡ Some lane)) → IsBetween p x w.epoch (with_way before d new) ds lane w.packets
+      by : (x : ℕ) (ds : ServerState) (lane : Way) → slice_get w.servers x ≡ Some ds → WayTo (with_way before d new) x lane
+          → ((x ≡ d) × (new ≡ lane)) ⊎ ((x ≢ d) × (slice_get before.ways x ≡ Some lane)) → IsBetween p x w.epoch (with_way before d new) ds lane w.packets
       by x ds lane to way (inl (here, is)) =
           subst (λ l. IsBetween p x w.epoch (with_way before d new) ds l w.packets) is
           (subst (λ y. IsBetween p y w.epoch (with_way before d new) ds new w.packets) (sym here)
           (moved ds (ap (slice_get w.servers) (sym here) ∙ to) (h.pairs p d before ds old at (ap (slice_get w.servers) (sym here) ∙ to) there)))
       by x ds lane to way (inr (elsewhere, is)) =
           kept x ds lane (h.pairs p x before ds lane at to
-          (there_way before x lane (record { apart = way.apart; within = ap (λ n. nat_lt x n) (sym (length-set before.lanes d new)) ∙ way.within; is = is })))
+          (there_way before x lane (record { apart = way.apart; within = ap (λ n. nat_lt x n) (sym (length-set before.ways d new)) ∙ way.within; is = is })))

@@ -25,9 +25,9 @@ use Rattle.fed_inbox.specs.Answer.{Request, Step, answered, taken, with_taking, 
 use Rattle.fed_inbox.specs.WholeRequest.{Heading, IsReadAs, is_signed_by, asked, IsAnsweredWhole, no_memory, not_read, read}
 use Rattle.fed_inbox.proofs.FoundLogs.{found_is, put_back, log_at-with_log_same, log_at-with_log_other}
 use Rattle.fed_inbox.proofs.Incomings.{one_reading, signed_read}
-use Rattle.fed_sim.specs.Messages.{IsReadable}
-use Rattle.fed_sim.proofs.Sent as sent
-use Rattle.fed_sim.proofs.Printed.{text}
+use Rattle.fed_exchange.specs.Messages.{IsReadable}
+use Rattle.fed_exchange.proofs.Sent as sent
+use Rattle.fed_exchange.proofs.Printed.{text}
 use Rattle.fed_sim.proofs.Ids.{txn_id, id_in_target}
 
 -- an inbox that has taken one transaction more

@@ -7,7 +7,7 @@ use Rattle.serde_json.specs.Data.{Data}
 use Rattle.fed_json.specs.CanonicalText.{canonical_text}
 use Rattle.fed_event.specs.Checked.{CheckedEvent}
 use Rattle.fed_journal.specs.Journal.{addressed, addressed_edus}
-use Rattle.fed_outbox.specs.Collecting.{Lane}
+use Rattle.fed_outbox.specs.Collecting.{Way}
 use Rattle.fed_outbox.specs.Outbox.{unanswered_pdus, unanswered_edus}
 use Rattle.fed_outbox.specs.Runs.{events_of, edus_of}
 use Rattle.fed_outbox.specs.Transaction.{TransactionValue}
@@ -49,7 +49,7 @@ whole done flight waiting queue landed rest all is front =
 prefix : {A : Type 0} (f : A → List ℕ) (all front rest : List A) (taken : List (List ℕ)) → taken ≡ map f front → all ≡ front ++ rest → (more : List (List ℕ)) × (map f all ≡ taken ++ more)
 prefix f all front rest taken is split = (map f rest, ap (map f) split ∙ map-append f front rest ∙ ap (λ t. t ++ map f rest) (sym is))
 
-delivered_between : (laws : Laws) (o d epoch : ℕ) (os ds : ServerState) (lane : Lane) (packets : List PacketState) → IsBetween o d epoch os ds lane packets → IsDelivered os ds d lane
+delivered_between : (laws : Laws) (o d epoch : ℕ) (os ds : ServerState) (lane : Way) (packets : List PacketState) → IsBetween o d epoch os ds lane packets → IsDelivered os ds d lane
 delivered_between laws o d epoch os ds lane packets b =
     let box = lane.outbox in
     let lands = b.held.lands in
@@ -78,7 +78,7 @@ delivered_between laws o d epoch os ds lane packets b =
 pub all_delivered : (laws : Laws) (w : WorldState) → IsSound w → AllDelivered w
 all_delivered laws w h o d origin dest of to apart =
     let is = h.servers o origin of in
-    let within : d < length origin.lanes = let below = slice_get_within w.servers d dest to in omega (arith, below, is.lanes) in
-    let lane = listed origin.lanes d within in
-    let way = there_way origin d lane.0 (record { apart = λ e. apart (sym (e ∙ is.own)); within = lt-ltb d (length origin.lanes) within; is = lane.1 }) in
+    let within : d < length origin.ways = let below = slice_get_within w.servers d dest to in omega (arith, below, is.ways) in
+    let lane = listed origin.ways d within in
+    let way = there_way origin d lane.0 (record { apart = λ e. apart (sym (e ∙ is.own)); within = lt-ltb d (length origin.ways) within; is = lane.1 }) in
     (is.name_is, (lane.0, way, delivered_between laws o d w.epoch origin dest lane.0 w.packets (h.pairs o d origin dest lane.0 of to way)))

@@ -12,7 +12,7 @@ use Rattle.std.proofs.lemmas.Slice.Eq.{bytes_eq-Decides}
 use Rattle.percent_encoding.specs.Percent.{percent_decode}
 use Rattle.percent_encoding.proofs.PercentLemmas.{percent_decode_not_percent}
 use Rattle.fed_inbox.specs.SendPath.{send_path, is_question_mark, path_of, if_passes, behind, is_slash, is_segment, segment_of, decoded, txn_of}
-use Rattle.fed_sim.proofs.Printed.{is_shown, passing, joined, text, and_left, and_right}
+use Rattle.fed_exchange.proofs.Printed.{is_shown, passing, joined, text, and_left, and_right}
 
 -- the id of transaction n: the epoch and n, with a hyphen between them
 abbrev pub txn_id : ℕ → ℕ → List ℕ

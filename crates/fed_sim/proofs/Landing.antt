@@ -18,7 +18,7 @@ use Rattle.fed_inbox.specs.Log.{LogState}
 use Rattle.fed_inbox.specs.Taking.{Taking, taking_of, is_edu}
 use Rattle.fed_inbox.specs.Answer.{with_taking}
 use Rattle.fed_inbox.proofs.Runs.{get-insert_same, get-insert_other}
-use Rattle.fed_sim.specs.Messages.{asked_of, bytes_sent, IsReadable}
+use Rattle.fed_exchange.specs.Messages.{asked_of, bytes_sent, IsReadable}
 use Rattle.fed_sim.specs.Packets.{packet_at}
 use Rattle.fed_sim.specs.World.{PacketState, request, answer}
 use Rattle.fed_sim.proofs.Ids.{txn_id}

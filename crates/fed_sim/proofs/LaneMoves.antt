@@ -21,15 +21,15 @@ use Rattle.fed_journal.specs.Journal.{parcels, addressed, addressed_edus, edus_o
 use Rattle.fed_journal.specs.Queues.{queue_after}
 use Rattle.fed_outbox.specs.Outbox.{OutboxState, accepted, accepted_edus, can_cut, next_transaction, cut, fits, with_load, failed, one_failure_more, has_number, settle, taken}
 use Rattle.fed_outbox.specs.Transaction.{TransactionValue}
-use Rattle.fed_outbox.specs.Collecting.{Lane, collected_of, collected}
+use Rattle.fed_outbox.specs.Collecting.{Way, collected_of, collected}
 use Rattle.fed_outbox.specs.Following.{Follows}
 use Rattle.fed_outbox.specs.Runs.{Cut, Failed, Settle, events_of}
 use Rattle.fed_outbox.specs.Runs as parcels_in
 use Rattle.fed_outbox.proofs.Following.{call_follows}
 use Rattle.fed_outbox.proofs.Counts.{none_unanswered, cut_where}
 use Rattle.fed_inbox.specs.Log.{LogState}
-use Rattle.fed_inbox.specs.Taking.{is_edu}
-use Rattle.fed_sim.specs.Link.{failed_once}
+use Rattle.fed_journal.specs.Edu.{is_edu}
+use Rattle.fed_outbox.specs.Answering.{failed_once}
 use Rattle.fed_sim.specs.Ways.{with_outbox, collecting, cutting, failing, settling}
 use Rattle.fed_sim.specs.World.{PacketState}
 use Rattle.fed_sim.proofs.Landing.{SentState, IsTakable, kept_for, Lands, lands_cut, lands_settled}
@@ -37,11 +37,11 @@ use Rattle.fed_sim.proofs.Landing.{SentState, IsTakable, kept_for, Lands, lands_
 -- ---- what is known of all ways
 
 pub record Laws : Type 0 where
-  pub entered : (d : ℕ) (entries : List Entry) (entry : Entry) (lane : Lane) → Follows d (parcels entries d) lane
+  pub entered : (d : ℕ) (entries : List Entry) (entry : Entry) (lane : Way) → Follows d (parcels entries d) lane
       → Follows d (parcels (entries ++ entry ∷ []) d) (record { queue = queue_after entries entry d lane.queue; outbox = lane.outbox })
-  pub collected : (d : ℕ) (entries : List Entry) (lane : Lane) → Follows d (parcels entries d) lane → Follows d (parcels entries d) (collected lane)
-  pub events : (d : ℕ) (entries : List Entry) (lane : Lane) → Follows d (parcels entries d) lane → addressed entries d ≡ accepted lane.outbox ++ events_of lane.queue
-  pub edus : (d : ℕ) (entries : List Entry) (lane : Lane) → Follows d (parcels entries d) lane → addressed_edus entries d ≡ accepted_edus lane.outbox ++ parcels_in.edus_of lane.queue
+  pub collected : (d : ℕ) (entries : List Entry) (lane : Way) → Follows d (parcels entries d) lane → Follows d (parcels entries d) (collected lane)
+  pub events : (d : ℕ) (entries : List Entry) (lane : Way) → Follows d (parcels entries d) lane → addressed entries d ≡ accepted lane.outbox ++ events_of lane.queue
+  pub edus : (d : ℕ) (entries : List Entry) (lane : Way) → Follows d (parcels entries d) lane → addressed_edus entries d ≡ accepted_edus lane.outbox ++ parcels_in.edus_of lane.queue
 
 -- an ephemeral data unit that its receiver takes
 pub record IsSoundEdu (edu : Data) : Type 0 where
@@ -54,22 +54,22 @@ sent_of o = record { settled = o.settled; settled_edus = o.settled_edus; unanswe
 
 -- ---- a way, and what its receiver took
 
-pub record IsHeld (o d epoch : ℕ) (name other : List ℕ) (journal : List Entry) (lane : Lane) (log : LogState) (packets : List PacketState) : Type 0 where
+pub record IsHeld (o d epoch : ℕ) (name other : List ℕ) (journal : List Entry) (lane : Way) (log : LogState) (packets : List PacketState) : Type 0 where
   pub sound : All IsSoundEdu (edus_of journal)
   pub follows : Follows d (parcels journal d) lane
   pub lands : Lands o d epoch name other (sent_of lane.outbox) log packets
 
 module _ (laws : Laws) (o d epoch : ℕ) (name other : List ℕ) (log : LogState) (packets : List PacketState) where
-  pub held_entered : (journal : List Entry) (entry : Entry) (lane : Lane) → All IsSoundEdu (edus_of (journal ++ entry ∷ [])) → IsHeld o d epoch name other journal lane log packets
+  pub held_entered : (journal : List Entry) (entry : Entry) (lane : Way) → All IsSoundEdu (edus_of (journal ++ entry ∷ [])) → IsHeld o d epoch name other journal lane log packets
       → IsHeld o d epoch name other (journal ++ entry ∷ []) (record { queue = queue_after journal entry d lane.queue; outbox = lane.outbox }) log packets
   held_entered journal entry lane sound h = record { sound = sound; follows = laws.entered d journal entry lane h.follows; lands = h.lands }
 
   module _ (journal : List Entry) where
-    abbrev Held : Lane → Type 0
+    abbrev Held : Way → Type 0
     Held lane = IsHeld o d epoch name other journal lane log packets
 
     -- as much is sent as before
-    held_same : (lane new : Lane) → Follows d (parcels journal d) new → sent_of new.outbox ≡ sent_of lane.outbox → Held lane → Held new
+    held_same : (lane new : Way) → Follows d (parcels journal d) new → sent_of new.outbox ≡ sent_of lane.outbox → Held lane → Held new
     held_same lane new follows same h = record { sound = h.sound; follows = follows; lands = subst (λ s. Lands o d epoch name other s log packets) (sym same) h.lands }
 
     -- ---- collecting
@@ -83,17 +83,17 @@ module _ (laws : Laws) (o d epoch : ℕ) (name other : List ℕ) (log : LogState
     collected_sends [] outbox = refl
     collected_sends (parcel ∷ later) outbox = by (fits outbox parcel.place)
       where
-        stays : Lane
+        stays : Way
         stays = record { queue = parcel ∷ later; outbox = outbox }
 
-        moves : Lane
+        moves : Way
         moves = record { queue = later; outbox = with_load outbox parcel.load }
 
-        by : (b : Bool) → sent_of (cond {A = Lane} b moves stays).outbox ≡ sent_of outbox
+        by : (b : Bool) → sent_of (cond {A = Way} b moves stays).outbox ≡ sent_of outbox
         by true = loaded outbox parcel.load
         by false = refl
 
-    pub held_collected : (lane : Lane) → Held lane → Held (collecting lane).1
+    pub held_collected : (lane : Way) → Held lane → Held (collecting lane).1
     held_collected lane h = held_same lane (collected lane) (laws.collected d journal lane h.follows) (collected_sends lane.queue lane.outbox) h
 
     -- ---- failing
@@ -105,10 +105,10 @@ module _ (laws : Laws) (o d epoch : ℕ) (name other : List ℕ) (log : LogState
         by true = refl
         by false = refl
 
-    held_after_failure : (lane : Lane) (n now : ℕ) → Held lane → Held (with_outbox lane (failed lane.outbox n now))
+    held_after_failure : (lane : Way) (n now : ℕ) → Held lane → Held (with_outbox lane (failed lane.outbox n now))
     held_after_failure lane n now h = held_same lane (with_outbox lane (failed lane.outbox n now)) (call_follows d (parcels journal d) lane (Failed n now) refl h.follows) (failed_sends lane.outbox n now) h
 
-    pub held_failed : (now : ℕ) (lane : Lane) → Held lane → Held (failing now lane).1
+    pub held_failed : (now : ℕ) (lane : Way) → Held lane → Held (failing now lane).1
     held_failed now lane h = by lane.outbox.unanswered refl
       where
         by : (u : Option TransactionValue) → lane.outbox.unanswered ≡ u → Held (with_outbox lane (failed_once lane.outbox now))
@@ -174,7 +174,7 @@ takable outbox now early sound =
     }
 
 module _ (laws : Laws) (o d epoch : ℕ) (name other : List ℕ) (log : LogState) (packets : List PacketState) (journal : List Entry) where
-  abbrev HeldThen : Lane → Type 0
+  abbrev HeldThen : Way → Type 0
   HeldThen lane = IsHeld o d epoch name other journal lane log packets
 
   abbrev LandsThen : SentState → Type 0
@@ -182,7 +182,7 @@ module _ (laws : Laws) (o d epoch : ℕ) (name other : List ℕ) (log : LogState
 
   -- ---- cutting
 
-  pub held_cut : (now : ℕ) → now ≤ 9007199254740991 → (lane : Lane) → HeldThen lane → HeldThen (cutting now lane).1
+  pub held_cut : (now : ℕ) → now ≤ 9007199254740991 → (lane : Way) → HeldThen lane → HeldThen (cutting now lane).1
   held_cut now early lane h = by (cases_Bool (can_cut lane.outbox))
     where
       waiting_sound : All IsSoundEdu lane.outbox.waiting_edus
@@ -213,7 +213,7 @@ module _ (laws : Laws) (o d epoch : ℕ) (name other : List ℕ) (log : LogState
   -- ---- settling
 
   -- transaction n is answered with a status; where that is 200 its reply is kept
-  pub held_settled : (n now : ℕ) (status : Option ℕ) (lane : Lane) → (status ≡ Some 200 → (reply : List ℕ) × (kept_for log epoch n ≡ Some reply)) → HeldThen lane → HeldThen (settling n status now lane).1
+  pub held_settled : (n now : ℕ) (status : Option ℕ) (lane : Way) → (status ≡ Some 200 → (reply : List ℕ) × (kept_for log epoch n ≡ Some reply)) → HeldThen lane → HeldThen (settling n status now lane).1
   held_settled n now None lane kept h = held_after_failure laws o d epoch name other log packets journal lane n now h
   held_settled n now (Some status) lane kept h = by (cases_Bool (has_number lane.outbox.unanswered n)) (cases_Bool (status == 200))
     where

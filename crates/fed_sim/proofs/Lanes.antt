@@ -17,13 +17,16 @@ use Rattle.fed_journal.specs.declared.parcel.Load.{Load}
 use Rattle.fed_journal.specs.declared.parcel.Load.TheVariants as load
 use Rattle.fed_journal.specs.declared.parcel.Parcel.{Parcel}
 use Rattle.fed_journal.specs.Journal.{is_closed, placed, load_for}
-use Rattle.fed_journal.specs.Queues.{parcel_after}
-use Rattle.fed_outbox.specs.Collecting.{Lane}
-use Rattle.fed_sim.specs.declared.offered.Offered.{Offered}
-use Rattle.fed_sim.specs.declared.offered.Offered.TheVariants as offered
-use Rattle.fed_sim.specs.Link.{LinkState, with_parcel, lanes_of}
-use Rattle.fed_sim.specs.Entering.{entry_of, load_of, open_among, lanes_from}
-use Rattle.fed_sim.specs.Sending.{parcel_to, parcels_for, pushed_from}
+use Rattle.fed_journal.specs.Queues.{parcel_after, parcel_to}
+use Rattle.fed_outbox.specs.Collecting.{Way}
+use Rattle.fed_journal.specs.declared.offered.Offered.{Offered}
+use Rattle.fed_journal.specs.declared.offered.Offered.TheVariants as offered
+use Rattle.fed_journal.specs.Offered.{entry_of, load_of}
+use Rattle.fed_journal.specs.Offering.{open_among}
+use Rattle.fed_sim.specs.Way.{WayState, with_parcel, ways_of}
+use Rattle.fed_sim.specs.Sending.{parcels_for, pushed_from}
+use Rattle.fed_sim.specs.Ways.{ways_beyond}
+use Rattle.fed_sim.proofs.Offers.{ways_from, ways_one}
 
 -- one of them changes, and not in what is seen of it
 pub same_seen : {A B : Type 0} (f : A → B) (xs : List A) (i : ℕ) (y d : A) → f y ≡ f (get_or xs i d) → map f (set xs i y) ≡ map f xs
@@ -62,11 +65,11 @@ none_left (x ∷ xs) none = absurd (omega (arith, none))
 
 -- ---- parcels that are pushed
 
-pub pushed_nothing : (n : ℕ) (lanes : List Lane) → pushed_from n [] lanes ≡ lanes
+pub pushed_nothing : (n : ℕ) (lanes : List Way) → pushed_from n [] lanes ≡ lanes
 pushed_nothing n [] = refl
 pushed_nothing n (lane ∷ lanes) = λ i. record { queue = append-nil lane.queue i; outbox = lane.outbox } ∷ pushed_nothing (n + 1) lanes i
 
-not_reached : (n : ℕ) (parcel : Parcel) (later : List Parcel) (lanes : List Lane) → ((k : ℕ) → k < length lanes → parcel.place.dest ≢ n + k)
+not_reached : (n : ℕ) (parcel : Parcel) (later : List Parcel) (lanes : List Way) → ((k : ℕ) → k < length lanes → parcel.place.dest ≢ n + k)
     → pushed_from n (parcel ∷ later) lanes ≡ pushed_from n later lanes
 not_reached n parcel later [] apart = refl
 not_reached n parcel later (lane ∷ lanes) apart =
@@ -74,17 +77,17 @@ not_reached n parcel later (lane ∷ lanes) apart =
     λ i. record { queue = lane.queue ++ (if other i then parcel ∷ parcels_for n later else parcels_for n later); outbox = lane.outbox }
     ∷ not_reached (n + 1) parcel later lanes (λ k below same. apart (k + 1) (omega (arith, below)) (omega (arith, same))) i
 
-one_pushed : (n : ℕ) (parcel : Parcel) (later : List Parcel) (lanes : List Lane) (k : ℕ) (lane : Lane) → parcel.place.dest ≡ n + k → slice_get lanes k ≡ Some lane
+one_pushed : (n : ℕ) (parcel : Parcel) (later : List Parcel) (lanes : List Way) (k : ℕ) (lane : Way) → parcel.place.dest ≡ n + k → slice_get lanes k ≡ Some lane
     → pushed_from n later (set lanes k (with_parcel lane parcel)) ≡ pushed_from n (parcel ∷ later) lanes
 one_pushed n parcel later [] k lane is here = absurd (none-some lane here)
 one_pushed n parcel later (x ∷ xs) zero lane is here =
     let same : x ≡ lane = same_Some x lane here in
     let this : (parcel.place.dest == n) ≡ true = eq-eqb _ _ (omega (arith, is)) in
     let queue : (lane.queue ++ parcel ∷ []) ++ parcels_for n later ≡ x.queue ++ parcels_for n (parcel ∷ later) =
-    ap (λ (l : Lane). (l.queue ++ parcel ∷ []) ++ parcels_for n later) (sym same)
+    ap (λ (l : Way). (l.queue ++ parcel ∷ []) ++ parcels_for n later) (sym same)
     ∙ append_assoc x.queue (parcel ∷ []) (parcels_for n later)
     ∙ ap (λ (b : Bool). x.queue ++ (if b then parcel ∷ parcels_for n later else parcels_for n later)) (sym this) in
-    let outbox : lane.outbox ≡ x.outbox = ap (λ (l : Lane). l.outbox) (sym same) in
+    let outbox : lane.outbox ≡ x.outbox = ap (λ (l : Way). l.outbox) (sym same) in
     let rest : pushed_from (n + 1) later xs ≡ pushed_from (n + 1) (parcel ∷ later) xs = sym (not_reached (n + 1) parcel later xs (λ k below e. absurd (omega (arith, is, e)))) in
     λ i. record { queue = queue i; outbox = outbox i } ∷ rest i
 one_pushed n parcel later (x ∷ xs) (suc k) lane is here =
@@ -93,14 +96,14 @@ one_pushed n parcel later (x ∷ xs) (suc k) lane is here =
     λ i. record { queue = x.queue ++ (if sym other i then parcel ∷ parcels_for n later else parcels_for n later); outbox = x.outbox } ∷ rest i
 
 -- a parcel is pushed on its way
-pub pushed_here : (parcel : Parcel) (later : List Parcel) (links : List LinkState) (k : ℕ) (link new : LinkState) → parcel.place.dest ≡ k → slice_get links k ≡ Some link
-    → new.lane ≡ with_parcel link.lane parcel → pushed_from 0 later (lanes_of (set links k new)) ≡ pushed_from 0 (parcel ∷ later) (lanes_of links)
-pushed_here parcel later links k link new is here gives =
-    ap (pushed_from 0 later) (map-set (λ (l : LinkState). l.lane) links k new ∙ ap (set (lanes_of links) k) gives)
-    ∙ one_pushed 0 parcel later (lanes_of links) k link.lane (omega (arith, is)) (slice_get-map (λ (l : LinkState). l.lane) links k ∙ ap (option_map (λ (l : LinkState). l.lane)) here)
+pub pushed_here : (parcel : Parcel) (later : List Parcel) (ways : List WayState) (k : ℕ) (way new : WayState) → parcel.place.dest ≡ k → slice_get ways k ≡ Some way
+    → new.way ≡ with_parcel way.way parcel → pushed_from 0 later (ways_of (set ways k new)) ≡ pushed_from 0 (parcel ∷ later) (ways_of ways)
+pushed_here parcel later ways k way new is here gives =
+    ap (pushed_from 0 later) (map-set (λ (l : WayState). l.way) ways k new ∙ ap (set (ways_of ways) k) gives)
+    ∙ one_pushed 0 parcel later (ways_of ways) k way.way (omega (arith, is)) (slice_get-map (λ (l : WayState). l.way) ways k ∙ ap (option_map (λ (l : WayState). l.way)) here)
 
 -- there is no way for a parcel
-pub pushed_nowhere : (parcel : Parcel) (later : List Parcel) (lanes : List Lane) → (length lanes ≤ parcel.place.dest)
+pub pushed_nowhere : (parcel : Parcel) (later : List Parcel) (lanes : List Way) → (length lanes ≤ parcel.place.dest)
     → pushed_from 0 later lanes ≡ pushed_from 0 (parcel ∷ later) lanes
 pushed_nowhere parcel later lanes past = sym (not_reached 0 parcel later lanes (λ k below e. absurd (omega (arith, past, below, e))))
 
@@ -186,8 +189,8 @@ load_sent (offered.Event event) dests d = refl
 load_sent (offered.Edu edu) dests d = refl
 
 -- the parcels of what is offered, each on its way
-pub all_sent : (offered : Offered) (dests : List ℕ) (entries : List Entry) → IsStrictlyIncreasing dests → (n : ℕ) (lanes : List Lane)
-    → pushed_from n (filter_map (parcel_to entries (load_of offered)) dests) lanes ≡ lanes_from n entries (entry_of offered dests) lanes
+pub all_sent : (offered : Offered) (dests : List ℕ) (entries : List Entry) → IsStrictlyIncreasing dests → (n : ℕ) (lanes : List Way)
+    → pushed_from n (filter_map (parcel_to entries (load_of offered)) dests) lanes ≡ ways_from n entries (entry_of offered dests) lanes
 all_sent offered dests entries rising n [] = refl
 all_sent offered dests entries rising n (lane ∷ lanes) =
     let parcels : parcels_for n (filter_map (parcel_to entries (load_of offered)) dests) ≡ option_to_list (parcel_after entries (entry_of offered dests) n) =
@@ -204,8 +207,8 @@ count_sent load (x ∷ xs) entries =
     [ true ↦ count_sent load xs entries | false ↦ ap suc (count_sent load xs entries) ]
 
 -- the end that a closing places
-pub end_sent : (d : ℕ) (entries : List Entry) → is_closed entries d ≡ false → (n : ℕ) (lanes : List Lane)
-    → pushed_from n (record { place = record { dest = d; number = placed entries d + 1 }; load = load.End } ∷ []) lanes ≡ lanes_from n entries (entry.Close d Asked) lanes
+pub end_sent : (d : ℕ) (entries : List Entry) → is_closed entries d ≡ false → (n : ℕ) (lanes : List Way)
+    → pushed_from n (record { place = record { dest = d; number = placed entries d + 1 }; load = load.End } ∷ []) lanes ≡ ways_from n entries (entry.Close d Asked) lanes
 end_sent d entries is_open n [] = refl
 end_sent d entries is_open n (lane ∷ lanes) =
     λ i. record { queue = lane.queue ++ parcels i; outbox = lane.outbox } ∷ end_sent d entries is_open (n + 1) lanes i

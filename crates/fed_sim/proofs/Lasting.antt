@@ -6,13 +6,13 @@ use Rattle.std.proofs.lemmas.Bool.Decides.{nat_tests}
 use Rattle.std.proofs.lemmas.List.Elements.{filter_map-append, All-append, All-nil, All-cons}
 use Rattle.serde_json.specs.Data.{Data, depth}
 use Rattle.fed_json.specs.CanonicalText.{canonical_text}
-use Rattle.fed_sim.specs.declared.outcome.EduRefusal.TheVariants as edu
+use Rattle.fed_journal.specs.declared.edu.EduFault.TheVariants as edu
 use Rattle.fed_journal.specs.declared.entry.Entry.{Entry}
 use Rattle.fed_journal.specs.declared.entry.Entry.TheVariants as entry
 use Rattle.fed_journal.specs.declared.entry.Cause.TheVariants.{Asked}
 use Rattle.fed_journal.specs.Journal.{edus_of, edu_in}
 use Rattle.fed_journal.specs.Queues.{queue_after}
-use Rattle.fed_outbox.specs.Collecting.{Lane}
+use Rattle.fed_outbox.specs.Collecting.{Way}
 use Rattle.fed_inbox.specs.Log.{LogState}
 use Rattle.fed_inbox.specs.Inbox.{log_at}
 use Rattle.fed_inbox.specs.Taking.{is_edu}
@@ -20,12 +20,13 @@ use Rattle.fed_room_contract.specs.Draft.{DraftFields}
 use Rattle.fed_sim.specs.declared.outcome.Outcome.{Outcome}
 use Rattle.fed_sim.specs.declared.outcome.Outcome.TheVariants as outcome
 use Rattle.fed_sim.specs.Arriving.{IsArrived, no_room, nothing, arrived, IsArrivedInPart, same, in_part, IsGivenTo, unknown_room, known_room}
-use Rattle.fed_sim.specs.Entering.{lanes_from}
-use Rattle.fed_sim.specs.Offering.{with_entry, with_stored, max_edu, max_edu_depth, IsOfferedAt, not_made, event_limit, event_sent, IsOffered, edu_refusal, IsEduOffered, edu_refused, edu_limit, edu_sent, IsClosedFor, own_server, not_listed, was_closed, close_limit, closed}
+use Rattle.fed_journal.specs.Edu.{max_edu, max_edu_depth, edu_fault_of}
+use Rattle.fed_sim.specs.Offering.{IsOfferedAt, IsOffered, IsEduOffered, IsClosedFor}
 use Rattle.fed_sim.specs.Offering as offering
 use Rattle.fed_sim.specs.Server.{ServerState}
 use Rattle.fed_sim.specs.Ways.{way_to, with_way, IsOnWay}
 use Rattle.fed_sim.specs.World.{WorldState, with_server, at_moment, max_moment, ticked}
+use Rattle.fed_sim.proofs.Offers.{ways_from, offer_cases, OfferCases, as_it_was, event_entered, edu_cases, EduCases, edu_as_it_was, edu_entered, close_cases, CloseCases, close_as_it_was, close_entered}
 use Rattle.fed_sim.proofs.LaneMoves.{Laws, IsSoundEdu, IsHeld, held_entered}
 use Rattle.fed_sim.proofs.Between.{same_some, not_none, set_same, IsBetween, IsSound, WayTo, way_there, there_way, Stays, changed, changed_elsewhere, way_changed}
 
@@ -47,8 +48,8 @@ put_back w p before at h = subst IsSound (sym (same_world w p before at)) h
 -- ---- an entry of the journal
 
 -- a lane of the longer journal is that of the shorter one, with what the entry places behind it
-lane_from : (n : ℕ) (entries : List Entry) (entry : Entry) (lanes : List Lane) (d : ℕ) (lane : Lane) → slice_get (lanes_from n entries entry lanes) d ≡ Some lane
-    → (old : Lane) × (slice_get lanes d ≡ Some old) × (lane ≡ record { queue = queue_after entries entry (n + d) old.queue; outbox = old.outbox })
+lane_from : (n : ℕ) (entries : List Entry) (entry : Entry) (lanes : List Way) (d : ℕ) (lane : Way) → slice_get (ways_from n entries entry lanes) d ≡ Some lane
+    → (old : Way) × (slice_get lanes d ≡ Some old) × (lane ≡ record { queue = queue_after entries entry (n + d) old.queue; outbox = old.outbox })
 lane_from n entries entry [] d lane e = absurd (not_none lane e)
 lane_from n entries entry (l ∷ lanes) zero lane e =
     let at : n ≡ n + 0 = omega arith in
@@ -58,9 +59,9 @@ lane_from n entries entry (l ∷ lanes) (suc d) lane e =
     let at : n + 1 + d ≡ n + suc d = omega arith in
     (later.0, later.1, later.2 ∙ ap (λ k. record { queue = queue_after entries entry k later.0.queue; outbox = later.0.outbox }) at)
 
-length-lanes_from : (n : ℕ) (entries : List Entry) (entry : Entry) (lanes : List Lane) → length (lanes_from n entries entry lanes) ≡ length lanes
-length-lanes_from n entries entry [] = refl
-length-lanes_from n entries entry (l ∷ lanes) = ap suc (length-lanes_from (n + 1) entries entry lanes)
+length-ways_from : (n : ℕ) (entries : List Entry) (entry : Entry) (lanes : List Way) → length (ways_from n entries entry lanes) ≡ length lanes
+length-ways_from n entries entry [] = refl
+length-ways_from n entries entry (l ∷ lanes) = ap suc (length-ways_from (n + 1) entries entry lanes)
 
 -- the ephemeral data unit of an entry can be taken, where there is one
 abbrev IsSoundEntry : Entry → Type 0
@@ -71,20 +72,20 @@ entered_sound journal x sound h = subst (All IsSoundEdu) (sym (filter_map-append
 
 module _ (laws : Laws) (w : WorldState) (p : ℕ) (before : ServerState) (at : slice_get w.servers p ≡ Some before) (h : IsSound w) where
   pub entered : (x : Entry) → IsSoundEntry x → (after : ServerState) → after.own ≡ before.own → after.name ≡ before.name → after.inbox ≡ before.inbox → after.journal ≡ before.journal ++ x ∷ []
-      → after.lanes ≡ lanes_from 0 before.journal x before.lanes → IsSound (with_server w p after)
+      → after.ways ≡ ways_from 0 before.journal x before.ways → IsSound (with_server w p after)
   entered x sound after own name inbox journal lanes = changed w p before at h after stays (λ d ds lane to way. by d ds lane to (way_there after d lane way))
     where
       stays : Stays w p before at h after
-      stays = record { own = own; name = name; inbox = inbox; lanes = ap length lanes ∙ length-lanes_from 0 before.journal x before.lanes }
+      stays = record { own = own; name = name; inbox = inbox; ways = ap length lanes ∙ length-ways_from 0 before.journal x before.ways }
 
-      by : (d : ℕ) (ds : ServerState) (lane : Lane) → slice_get w.servers d ≡ Some ds → WayTo after d lane → IsBetween p d w.epoch after ds lane w.packets
+      by : (d : ℕ) (ds : ServerState) (lane : Way) → slice_get w.servers d ≡ Some ds → WayTo after d lane → IsBetween p d w.epoch after ds lane w.packets
       by d ds lane to way =
-          let from = lane_from 0 before.journal x before.lanes d lane (ap (λ l. slice_get l d) (sym lanes) ∙ way.is) in
+          let from = lane_from 0 before.journal x before.ways d lane (ap (λ l. slice_get l d) (sym lanes) ∙ way.is) in
           let old = from.0 in
           let counted : 0 + d ≡ d = omega arith in
           let lane_is = from.2 ∙ ap (λ k. record { queue = queue_after before.journal x k old.queue; outbox = old.outbox }) counted in
           let b = h.pairs p d before ds old at to
-          (there_way before d old (record { apart = λ e. way.apart (e ∙ sym own); within = ap (λ n. nat_lt d n) (sym stays.lanes) ∙ way.within; is = from.1 })) in
+          (there_way before d old (record { apart = λ e. way.apart (e ∙ sym own); within = ap (λ n. nat_lt d n) (sym stays.ways) ∙ way.within; is = from.1 })) in
           let now = held_entered laws p d w.epoch before.name ds.name b.log w.packets before.journal x old (entered_sound before.journal x sound b.held.sound) b.held in
           record {
             log = b.log;
@@ -98,15 +99,17 @@ module _ (laws : Laws) (w : WorldState) (p : ℕ) (before : ServerState) (at : s
   -- ---- what a server offers, and closes
 
   offered_at : (place : ℕ) (draft : DraftFields) (told : Outcome) (after : ServerState) → IsOfferedAt w.names place draft before told after → IsSound (with_server w p after)
-  offered_at place draft _ _ (not_made room refusal is refused) = put_back w p before at h
-  offered_at place draft _ _ (event_limit room e dests is made go full) = put_back w p before at h
-  offered_at place draft _ _ (event_sent room e dests is made go free) = entered (entry.Event e.event dests) (All-nil IsSoundEdu) _ refl refl refl refl refl
+  offered_at place draft told after is = by told after (offer_cases w.names place draft before told after is)
+    where
+      by : (told : Outcome) (after : ServerState) → OfferCases w.names place draft before told after → IsSound (with_server w p after)
+      by _ _ (as_it_was told) = put_back w p before at h
+      by _ _ (event_entered room e dests here made ready go) = entered (entry.Event e.event dests) (All-nil IsSoundEdu) _ refl refl refl refl refl
 
   pub offered : (draft : DraftFields) (told : Outcome) (after : ServerState) → IsOffered w.names w.known draft before told after → IsSound (with_server w p after)
   offered draft told after (offering.unknown_room none is same_server) = subst (λ s. IsSound (with_server w p s)) (sym same_server) (put_back w p before at h)
   offered draft told after (offering.known_room place is at_it) = offered_at place draft told after at_it
 
-  edu_is_sound : (value : Data) → edu_refusal value ≡ None → IsSoundEdu value
+  edu_is_sound : (value : Data) → edu_fault_of value ≡ None → IsSoundEdu value
   edu_is_sound value none = by (is_edu value) (nat_lt max_edu (length (canonical_text value))) (nat_lt max_edu_depth (depth value)) refl refl refl none
     where
       by : (a b c : Bool) → is_edu value ≡ a → nat_lt max_edu (length (canonical_text value)) ≡ b → nat_lt max_edu_depth (depth value) ≡ c
@@ -117,16 +120,18 @@ module _ (laws : Laws) (w : WorldState) (p : ℕ) (before : ServerState) (at : s
       by false b c is size levels e = absurd (not_none _ (sym e))
 
   pub edu_offered : (value : Data) (dests : List ℕ) (told : Outcome) (after : ServerState) → IsEduOffered value dests before told after → IsSound (with_server w p after)
-  edu_offered value dests _ _ (edu_refused refusal is) = put_back w p before at h
-  edu_offered value dests _ _ (edu_limit none full) = put_back w p before at h
-  edu_offered value dests _ _ (edu_sent none free) = entered (entry.Edu value _) (All-cons IsSoundEdu value [] (edu_is_sound value none) (All-nil IsSoundEdu)) _ refl refl refl refl refl
+  edu_offered value dests told after is = by told after (edu_cases value dests before told after is)
+    where
+      by : (told : Outcome) (after : ServerState) → EduCases value dests before told after → IsSound (with_server w p after)
+      by _ _ (edu_as_it_was told) = put_back w p before at h
+      by _ _ (edu_entered none) = entered (entry.Edu value _) (All-cons IsSoundEdu value [] (edu_is_sound value none) (All-nil IsSoundEdu)) _ refl refl refl refl refl
 
   pub closed_for : (d : ℕ) (told : Outcome) (after : ServerState) → IsClosedFor d before told after → IsSound (with_server w p after)
-  closed_for d _ _ (own_server is) = put_back w p before at h
-  closed_for d _ _ (not_listed none) = put_back w p before at h
-  closed_for d _ _ (was_closed lane apart is shut) = put_back w p before at h
-  closed_for d _ _ (close_limit lane apart is unclosed full) = put_back w p before at h
-  closed_for d _ _ (closed lane apart is unclosed free) = entered (entry.Close d Asked) (All-nil IsSoundEdu) _ refl refl refl refl refl
+  closed_for d told after is = by told after (close_cases d before told after is)
+    where
+      by : (told : Outcome) (after : ServerState) → CloseCases d before told after → IsSound (with_server w p after)
+      by _ _ (close_as_it_was told) = put_back w p before at h
+      by _ _ close_entered = entered (entry.Close d Asked) (All-nil IsSoundEdu) _ refl refl refl refl refl
 
 -- ---- what a room is given
 
@@ -135,12 +140,12 @@ module _ (w : WorldState) (p : ℕ) (before : ServerState) (at : slice_get w.ser
   arrived_so place _ _ (no_room none) = put_back w p before at h
   arrived_so place _ _ (nothing none) = put_back w p before at h
   arrived_so place _ _ (arrived room after event later told is applied) =
-      changed_elsewhere w p before at h _ (record { own = refl; name = refl; inbox = refl; lanes = refl }) refl refl
+      changed_elsewhere w p before at h _ (record { own = refl; name = refl; inbox = refl; ways = refl }) refl refl
 
   pub arrived_in_part : (place : ℕ) (after : ServerState) → IsArrivedInPart place before after → IsSound (with_server w p after)
   arrived_in_part place _ same = put_back w p before at h
   arrived_in_part place _ (in_part room after event later is stopped) =
-      changed_elsewhere w p before at h _ (record { own = refl; name = refl; inbox = refl; lanes = refl }) refl refl
+      changed_elsewhere w p before at h _ (record { own = refl; name = refl; inbox = refl; ways = refl }) refl refl
 
   pub given_to : (id : List ℕ) (told : Outcome) (after : ServerState) → IsGivenTo w.known id before told after → IsSound (with_server w p after)
   given_to id _ _ (unknown_room none) = put_back w p before at h
@@ -152,14 +157,14 @@ module _ (w : WorldState) (p : ℕ) (before : ServerState) (at : slice_get w.ser
   second_is a c b d e = ap (λ pair. pair.1) e
 
   -- what leaves every way as it has to be does so here
-  abbrev Leaves : ℕ → (Lane → Outcome × Lane) → Type 0
-  Leaves d step = (lane : Lane) (ds : ServerState) → slice_get w.servers d ≡ Some ds → way_to before d ≡ Some lane → (log : LogState) → log_at before.name ds.inbox.logs ≡ Some log
+  abbrev Leaves : ℕ → (Way → Outcome × Way) → Type 0
+  Leaves d step = (lane : Way) (ds : ServerState) → slice_get w.servers d ≡ Some ds → way_to before d ≡ Some lane → (log : LogState) → log_at before.name ds.inbox.logs ≡ Some log
       → IsHeld p d w.epoch before.name ds.name before.journal lane log w.packets → IsHeld p d w.epoch before.name ds.name before.journal (step lane).1 log w.packets
 
-  pub on_its_way : (d : ℕ) (step : Lane → Outcome × Lane) (told : Outcome) (after : ServerState) → Leaves d step → IsOnWay d step before told after → IsSound (with_server w p after)
+  pub on_its_way : (d : ℕ) (step : Way → Outcome × Way) (told : Outcome) (after : ServerState) → Leaves d step → IsOnWay d step before told after → IsSound (with_server w p after)
   on_its_way d step told after leaves is = by (way_to before d) refl
     where
-      by : (way : Option Lane) → way_to before d ≡ way → IsSound (with_server w p after)
+      by : (way : Option Way) → way_to before d ≡ way → IsSound (with_server w p after)
       by None none =
           let same : after ≡ before = second_is told outcome.NoSuchServer after before (is ∙ ap (λ way. option_map_or (λ lane. ((step lane).0, with_way before d (step lane).1)) way (outcome.NoSuchServer, before)) none) in
           subst (λ s. IsSound (with_server w p s)) (sym same) (put_back w p before at h)

@@ -1,6 +1,6 @@
-pub mod Reading
 pub mod Fresh
 pub mod Places
+pub mod Offers
 pub mod Lanes
 pub mod Servers
 pub mod Arrivals
@@ -11,9 +11,6 @@ pub mod Packets
 pub mod Reaching
 pub mod Built
 pub mod Options
-pub mod Printed
-pub mod Digests
-pub mod Sent
 pub mod Ids
 pub mod Comings
 pub mod Landing
@@ -26,4 +23,5 @@ pub mod Taken
 pub mod Beginning
 pub mod Delivered
 pub mod Runs
+pub mod Stored
 pub mod Journals

@@ -7,11 +7,11 @@ use Rattle.std.proofs.lemmas.List.{length-map, map-append}
 use Rattle.std.proofs.lemmas.Option.{slice_get-map, slice_get-get_or, slice_get_past, same_Some, none-some}
 use Rattle.fed_http.specs.Message.{RequestValue}
 use Rattle.fed_inbox.specs.Reply.{Answer}
-use Rattle.fed_sim.specs.Messages.{IsRequestIn, HasNoRequest}
+use Rattle.fed_exchange.specs.Messages.{IsRequestIn, HasNoRequest}
 use Rattle.fed_sim.specs.declared.outcome.Outcome.{Outcome}
 use Rattle.fed_sim.specs.declared.packet.Packet.{Packet}
 use Rattle.fed_sim.specs.declared.server.Server.{Server}
-use Rattle.fed_sim.specs.Link.{LinkState}
+use Rattle.fed_sim.specs.Way.{WayState}
 use Rattle.fed_sim.specs.Packets.{packet_at, NoRequestAt, NoAnswerAt, with_packet, IsOn}
 use Rattle.fed_sim.specs.ServerParts.{server_of}
 use Rattle.fed_sim.specs.Ways.{has_way}
@@ -63,10 +63,10 @@ one_more w old new p q more is =
 
 -- the way from a server to a destination
 pub is_on : (w : WorldState) (servers : List Server) (server k : ℕ) (at : k ≡ server) (before : Server) (value : before ≡ get_or servers k before) (listed : nat_lt server (length servers) ≡ true)
-    (dest j : ℕ) (to : j ≡ dest) (link : LinkState) (is : link ≡ get_or before.links.items j link) → has_way (server_of before) dest ≡ true → IsOn (world_at w servers) server dest (server_of before) link.lane
-is_on w servers server k at before value listed dest j to link is has = record {
+    (dest j : ℕ) (to : j ≡ dest) (way : WayState) (is : way ≡ get_or before.ways.items j way) → has_way (server_of before) dest ≡ true → IsOn (world_at w servers) server dest (server_of before) way.way
+is_on w servers server k at before value listed dest j to way is has = record {
   server_is = server_is w servers server k at before before value listed;
-  way_is = way_is dest (server_of before) before.links.items refl j to link link is has;
+  way_is = way_is dest (server_of before) before.ways.items refl j to way way is has;
 }
 
 -- another outcome and another world that are the same

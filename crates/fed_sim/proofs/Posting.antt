@@ -4,10 +4,10 @@ use Rattle.std.specs.Prelude.{slice_get}
 use Rattle.std.proofs.lemmas.Bool.{cases_eq, ltb-true}
 use Rattle.std.proofs.lemmas.Option.{slice_get_within}
 use Rattle.fed_inbox.specs.Reply.{Answer}
-use Rattle.fed_outbox.specs.Collecting.{Lane}
+use Rattle.fed_outbox.specs.Collecting.{Way}
 use Rattle.fed_outbox.specs.Transaction.{TransactionValue}
 use Rattle.fed_sim.specs.declared.outcome.Outcome.{Outcome}
-use Rattle.fed_sim.specs.Messages.{IsReadable, IsStatusIn, IsStatusOf}
+use Rattle.fed_exchange.specs.Messages.{IsReadable, IsStatusIn, IsStatusOf}
 use Rattle.fed_sim.specs.Packets.{packet_at, with_packet, IsOn, request_for, IsPosted, no_sender, no_way, no_name, nothing, not_due, posted, IsSettled, no_answer, settled}
 use Rattle.fed_sim.specs.Server.{ServerState}
 use Rattle.fed_sim.specs.Ways.{way_to, IsOnWay, settling}
@@ -20,7 +20,7 @@ use Rattle.fed_sim.proofs.Statuses.{no_memory_is_no_success}
 
 -- ---- one packet more
 
-pub held_foreign : (o d epoch : ℕ) (os ds : ServerState) (lane : Lane) (packets : List PacketState) (p : PacketState) → IsForeign o d p → IsBetween o d epoch os ds lane packets
+pub held_foreign : (o d epoch : ℕ) (os ds : ServerState) (lane : Way) (packets : List PacketState) (p : PacketState) → IsForeign o d p → IsBetween o d epoch os ds lane packets
     → IsBetween o d epoch os ds lane (packets ++ p ∷ [])
 held_foreign o d epoch os ds lane packets p foreign b = record {
   log = b.log;
@@ -28,7 +28,7 @@ held_foreign o d epoch os ds lane packets p foreign b = record {
   held = record { sound = b.held.sound; follows = b.held.follows; lands = lands_other o d epoch os.name ds.name (sent_of lane.outbox) b.log packets p foreign b.held.lands };
 }
 
-module _ (w : WorldState) (h : IsSound w) (server dest : ℕ) (s : ServerState) (lane : Lane) (t : TransactionValue) (name : List ℕ) (on : IsOn w server dest s lane) (unanswered : lane.outbox.unanswered ≡ Some t)
+module _ (w : WorldState) (h : IsSound w) (server dest : ℕ) (s : ServerState) (lane : Way) (t : TransactionValue) (name : List ℕ) (on : IsOn w server dest s lane) (unanswered : lane.outbox.unanswered ≡ Some t)
     (name_is : slice_get w.names dest ≡ Some name) (readable : IsReadable s.name w.epoch t) where
   abbrev one : PacketState
   one = request_for w server s dest name t
@@ -41,8 +41,8 @@ module _ (w : WorldState) (h : IsSound w) (server dest : ℕ) (s : ServerState) 
 
   is_way : IsWay (length w.servers) server dest
   is_way =
-      let below = ltb-true dest (length s.lanes) way.within in
-      record { from = slice_get_within w.servers server s on.server_is; to = omega (arith, below, sender.lanes); apart = λ e. way.apart (e ∙ sym sender.own) }
+      let below = ltb-true dest (length s.ways) way.within in
+      record { from = slice_get_within w.servers server s on.server_is; to = omega (arith, below, sender.ways); apart = λ e. way.apart (e ∙ sym sender.own) }
 
   posted_so : IsSound (with_packet w one)
   posted_so = record {
@@ -85,12 +85,12 @@ module _ (w : WorldState) (h : IsSound w) (server dest : ℕ) (s : ServerState) 
             };
           }
 
-      pair : (o d : ℕ) (os ds : ServerState) (l : Lane) → slice_get w.servers o ≡ Some os → slice_get w.servers d ≡ Some ds → way_to os d ≡ Some l → (o ≡ server) ⊎ (o ≢ server) → (d ≡ dest) ⊎ (d ≢ dest)
+      pair : (o d : ℕ) (os ds : ServerState) (l : Way) → slice_get w.servers o ≡ Some os → slice_get w.servers d ≡ Some ds → way_to os d ≡ Some l → (o ≡ server) ⊎ (o ≢ server) → (d ≡ dest) ⊎ (d ≢ dest)
           → IsBetween o d w.epoch os ds l (w.packets ++ one ∷ [])
       pair o d os ds l eo ed there (inl from) (inl to) =
           let same_server : s ≡ os = same_some s os (sym on.server_is ∙ ap (slice_get w.servers) (sym from) ∙ eo) in
           let same_lane : lane ≡ l = same_some lane l (sym on.way_is ∙ (λ i. way_to (same_server i) (sym to i)) ∙ there) in
-          let P : ℕ → ℕ → ServerState → Lane → Type 0 = λ a b x y. IsBetween a b w.epoch x ds y (w.packets ++ one ∷ []) in
+          let P : ℕ → ℕ → ServerState → Way → Type 0 = λ a b x y. IsBetween a b w.epoch x ds y (w.packets ++ one ∷ []) in
           subst (λ a. P a d os l) (sym from) (subst (λ b. P server b os l) (sym to) (subst (λ x. P server dest x l) same_server (subst (λ y. P server dest s y) same_lane
           (here ds (ap (slice_get w.servers) (sym to) ∙ ed) (h.pairs server dest s ds lane on.server_is (ap (slice_get w.servers) (sym to) ∙ ed) on.way_is)))))
       pair o d os ds l eo ed there (inr other) to = held_foreign o d w.epoch os ds l w.packets one (elsewhere o d (λ same. other (sym same.0))) (h.pairs o d os ds l eo ed there)

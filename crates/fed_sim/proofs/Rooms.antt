@@ -17,7 +17,7 @@ use Rattle.fed_sim.proofs.Servers.{server_at, same_parts}
 
 -- a server with these rooms
 abbrev pub hosting : ServerState → List HostedState → ServerState
-hosting s hosted = server_at s (rooms_of hosted) (arrivals_of hosted) s.journal s.lanes
+hosting s hosted = server_at s (rooms_of hosted) (arrivals_of hosted) s.journal s.ways
 
 pub no_such_room : (s : ServerState) (hosted : List HostedState) (k : ℕ) → length hosted ≤ k → IsArrived k (hosting s hosted) outcome.NothingApplied (hosting s hosted)
 no_such_room s hosted k past = no_room (slice_get_past (rooms_of hosted) k (let all = length-map hosted (λ (h : HostedState). room_of h.room) in omega (arith, all, past)))
@@ -29,7 +29,7 @@ module _ (s : ServerState) (hosted : List HostedState) (k : ℕ) (old new : Host
   -- what others see of the room is as it was
   kept : IsSame old new → hosting s (set hosted k new) ≡ hosting s hosted
   kept is_same =
-      same_parts s _ _ _ _ s.journal s.journal s.lanes s.lanes
+      same_parts s _ _ _ _ s.journal s.journal s.ways s.ways
       (same_seen (λ (h : HostedState). room_of h.room) hosted k new old (is_same.room ∙ ap (λ (h : HostedState). room_of h.room) value))
       (same_seen (λ (h : HostedState). h.queue) hosted k new old (is_same.queue ∙ ap (λ (h : HostedState). h.queue) value)) refl refl
 
@@ -41,7 +41,7 @@ module _ (s : ServerState) (hosted : List HostedState) (k : ℕ) (old new : Host
   }
 
   afterwards : with_room (hosting s hosted) k (room_of new.room) new.queue ≡ hosting s (set hosted k new)
-  afterwards = same_parts s _ _ _ _ s.journal s.journal s.lanes s.lanes (sym (map-set (λ (h : HostedState). room_of h.room) hosted k new)) (sym (map-set (λ (h : HostedState). h.queue) hosted k new)) refl refl
+  afterwards = same_parts s _ _ _ _ s.journal s.journal s.ways s.ways (sym (map-set (λ (h : HostedState). room_of h.room) hosted k new)) (sym (map-set (λ (h : HostedState). h.queue) hosted k new)) refl refl
 
   pub given : (told : Option Applied) (a : Applied) → told ≡ Some a → IfSome told (λ x. IsGiven old new (λ event. IsApplied room_rules (room_of old.room) event x (room_of new.room)))
       → IsArrived k (hosting s hosted) (outcome.Applied a.receipt a.more) (hosting s (set hosted k new))

@@ -96,14 +96,14 @@ module _ (laws : Laws) where
   left (OfferEdu server edu dests) w new is h = same_world w new is h
   left (Close server dest) w new is h = same_world w new is h
   left (Collect server dest) w new is h = same_world w new is h
-  left (Cut server dest) w new is h = same_world w new is h
-  left (Failed server dest) w new is h = same_world w new is h
+  left (Cut server dest) w new is h = absurd is
+  left (Failed server dest) w new is h = absurd is
   left (Post server dest) w new is h = same_world w new is h
   left (Take packet) w new is h = same_world w new is h
   left (Settle packet) w new is h = same_world w new is h
   left (Apply server room) w new is h = given_in_part server (string_bytes room) w new is h
-  left (Tick ms) w new is h = same_world w new is h
-  left (Show server origin) w new is h = same_world w new is h
+  left (Tick ms) w new is h = absurd is
+  left (Show server origin) w new is h = absurd is
   left (Calm rounds) w new is h = reached_in_part w new is h
 
   pub makes_sound : (step : Step) (w : WorldState) (told : Outcome) (new : WorldState) → Makes step w told new → IsSound w → IsSound new

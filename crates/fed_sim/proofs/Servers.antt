@@ -12,23 +12,24 @@ use Rattle.fed_journal.specs.declared.entry.Entry.{Entry}
 use Rattle.fed_journal.specs.declared.fault.JournalFault.{JournalFault}
 use Rattle.fed_journal.specs.Journal.{is_closed, placed, next_place}
 use Rattle.fed_journal.specs.Place.{PlaceValue}
-use Rattle.fed_outbox.specs.Collecting.{Lane}
+use Rattle.fed_outbox.specs.Collecting.{Way}
 use Rattle.fed_sim.specs.declared.outcome.Outcome.{Outcome}
 use Rattle.fed_sim.specs.declared.entering.Entered.{Entered}
-use Rattle.fed_sim.specs.declared.offered.Offered.{Offered}
-use Rattle.fed_sim.specs.Entering.{has_place, entry_of, number_of, open_among}
+use Rattle.fed_journal.specs.declared.offered.Offered.{Offered}
+use Rattle.fed_journal.specs.Offered.{entry_of, number_of}
+use Rattle.fed_journal.specs.Offering.{has_place, open_among}
 use Rattle.fed_sim.specs.Sending.{fits, entered_told}
 use Rattle.fed_sim.specs.Server.{ServerState}
 
 -- other rooms, another journal, and other lanes
-abbrev pub server_at : ServerState → List RoomState → List (List CheckedEvent) → List Entry → List Lane → ServerState
-server_at s rooms arrivals journal lanes = record { own = s.own; name = s.name; rooms = rooms; arrivals = arrivals; journal = journal; lanes = lanes; inbox = s.inbox }
+abbrev pub server_at : ServerState → List RoomState → List (List CheckedEvent) → List Entry → List Way → ServerState
+server_at s rooms arrivals journal lanes = record { own = s.own; name = s.name; rooms = rooms; arrivals = arrivals; journal = journal; ways = lanes; inbox = s.inbox }
 
-pub same_parts : (s : ServerState) (q r : List RoomState) (m n : List (List CheckedEvent)) (a b : List Entry) (xs ys : List Lane) → q ≡ r → m ≡ n → a ≡ b → xs ≡ ys
+pub same_parts : (s : ServerState) (q r : List RoomState) (m n : List (List CheckedEvent)) (a b : List Entry) (xs ys : List Way) → q ≡ r → m ≡ n → a ≡ b → xs ≡ ys
     → server_at s q m a xs ≡ server_at s r n b ys
 same_parts s q r m n a b xs ys rooms arrivals journal lanes = λ i. server_at s (rooms i) (arrivals i) (journal i) (lanes i)
 
-pub same_at : (s : ServerState) (a b : List Entry) (xs ys : List Lane) → a ≡ b → xs ≡ ys → server_at s s.rooms s.arrivals a xs ≡ server_at s s.rooms s.arrivals b ys
+pub same_at : (s : ServerState) (a b : List Entry) (xs ys : List Way) → a ≡ b → xs ≡ ys → server_at s s.rooms s.arrivals a xs ≡ server_at s s.rooms s.arrivals b ys
 same_at s a b xs ys journal lanes = same_parts s s.rooms s.rooms s.arrivals s.arrivals a b xs ys refl refl journal lanes
 
 -- an element stands at each place that is not past the end

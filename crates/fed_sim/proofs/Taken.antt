@@ -17,19 +17,20 @@ use Rattle.fed_inbox.specs.Inbox.{log_at, pdus_by, edus_by, taken_of, taken_edus
 use Rattle.fed_inbox.specs.Answer.{with_taking}
 use Rattle.fed_inbox.specs.Taking.{Taking, taking_of, is_edu}
 use Rattle.fed_inbox.specs.WholeRequest.{IsAnsweredWhole}
-use Rattle.fed_outbox.specs.Collecting.{Lane}
+use Rattle.fed_outbox.specs.Collecting.{Way}
 use Rattle.fed_sim.specs.declared.outcome.Outcome.{Outcome}
-use Rattle.fed_sim.specs.Messages.{IsRequestIn, HasNoRequest}
+use Rattle.fed_exchange.specs.Messages.{IsRequestIn, HasNoRequest}
 use Rattle.fed_sim.specs.Packets.{packet_at, with_packet, IsTaken, no_request, no_text, no_receiver, taken}
 use Rattle.fed_sim.specs.Server.{ServerState}
-use Rattle.fed_sim.specs.Taking.{IsReceived, arrivals_from}
+use Rattle.fed_inbox.specs.Queues.{queues_from}
+use Rattle.fed_sim.specs.Taking.{IsReceived}
 use Rattle.fed_sim.specs.Headline.{WasGiven, IsAllTaken, IsAnswered, IsAnsweredOnce}
 use Rattle.fed_sim.specs.Headline as answers
 use Rattle.fed_sim.specs.Ways.{way_to}
 use Rattle.fed_sim.specs.World.{PacketState, request, answer, WorldState, with_server}
 use Rattle.fed_sim.proofs.Ids.{txn_id}
 use Rattle.fed_sim.proofs.Servers.{listed}
-use Rattle.fed_sim.proofs.Sent as sent
+use Rattle.fed_exchange.proofs.Sent as sent
 use Rattle.fed_sim.proofs.Comings.{Comes, nothing, again, first, HasTaken, whole}
 use Rattle.fed_sim.proofs.Landing.{texts, last_or_before, IsForeign, IsRequestOf, IsAnswerOf, kept_for, Lands, lands_answered, lands_taken}
 use Rattle.fed_sim.proofs.LaneMoves.{IsHeld, sent_of}
@@ -38,7 +39,7 @@ use Rattle.fed_sim.proofs.Posting.{held_foreign}
 use Rattle.fed_sim.proofs.Delivered.{same_texts}
 
 -- nothing new stands in front of the rooms
-nothing_arrives : (k : ℕ) (known : List (List ℕ)) (queues : List (List CheckedEvent)) → arrivals_from k known [] queues ≡ queues
+nothing_arrives : (k : ℕ) (known : List (List ℕ)) (queues : List (List CheckedEvent)) → queues_from k known [] queues ≡ queues
 nothing_arrives k known [] = refl
 nothing_arrives k known (queue ∷ queues) = (λ i. append-nil queue i ∷ nothing_arrives (k + 1) known queues i)
 
@@ -67,17 +68,17 @@ module _ (w : WorldState) (h : IsSound w) (k server dest n : ℕ) (bytes : List 
     ds_is : IsServerAt w.names (length w.servers) dest before
     ds_is = h.servers dest before at
 
-    pub lane_there : (lane : Lane) × (slice_get os.lanes dest ≡ Some lane)
-    lane_there = listed os.lanes dest (let to = is_way.to in omega (arith, to, os_is.lanes))
+    pub lane_there : (lane : Way) × (slice_get os.ways dest ≡ Some lane)
+    lane_there = listed os.ways dest (let to = is_way.to in omega (arith, to, os_is.ways))
 
-    abbrev pub lane : Lane
+    abbrev pub lane : Way
     lane = lane_there.0
 
     way_is : way_to os dest ≡ Some lane
     way_is =
         there_way os dest lane (record {
           apart = λ e. is_way.apart (e ∙ os_is.own);
-          within = lt-ltb dest (length os.lanes) (let to = is_way.to in omega (arith, to, os_is.lanes));
+          within = lt-ltb dest (length os.ways) (let to = is_way.to in omega (arith, to, os_is.ways));
           is = lane_there.1;
         })
 
@@ -103,10 +104,10 @@ module _ (w : WorldState) (h : IsSound w) (k server dest n : ℕ) (bytes : List 
       abbrev pub taking : Taking
       taking = taking_of stand_in_checks before.inbox.rooms (received os.name asks.t)
 
-      pub comes : Comes (txn_id w.epoch asks.t.number) os.name taking between.log before.inbox reply after.inbox is.fresh
+      pub comes : Comes (txn_id w.epoch asks.t.number) os.name taking between.log before.inbox reply after.inbox is.taken.fresh
       comes =
-          whole os.name before.name w.epoch asks.t os_is.named ds_is.named asks.takable.limits asks.readable before.inbox ds_is.inbox_own between.log between.log_is reply after.inbox is.fresh
-          (subst (λ x. IsAnsweredWhole stand_in_checks before.inbox x reply after.inbox is.fresh) request_is is.answered)
+          whole os.name before.name w.epoch asks.t os_is.named ds_is.named asks.takable.limits asks.readable before.inbox ds_is.inbox_own between.log between.log_is reply after.inbox is.taken.fresh
+          (subst (λ x. IsAnsweredWhole stand_in_checks before.inbox x reply after.inbox is.taken.fresh) request_is is.taken.answered)
 
       same_numbers : txn_id w.epoch asks.t.number ≡ txn_id w.epoch n
       same_numbers = ap (txn_id w.epoch) asks.number_is
@@ -125,13 +126,13 @@ module _ (w : WorldState) (h : IsSound w) (k server dest n : ℕ) (bytes : List 
       journal_stays : after.journal ≡ before.journal
       journal_stays = ap (λ s. s.journal) is.others
 
-      lanes_stay : after.lanes ≡ before.lanes
-      lanes_stay = ap (λ s. s.lanes) is.others
+      lanes_stay : after.ways ≡ before.ways
+      lanes_stay = ap (λ s. s.ways) is.others
 
       inbox_own : after.inbox.own ≡ before.inbox.own
       inbox_own = by comes
         where
-          by : Comes (txn_id w.epoch asks.t.number) os.name taking between.log before.inbox reply after.inbox is.fresh → after.inbox.own ≡ before.inbox.own
+          by : Comes (txn_id w.epoch asks.t.number) os.name taking between.log before.inbox reply after.inbox is.taken.fresh → after.inbox.own ≡ before.inbox.own
           by (nothing said same none) = ap (λ i. i.own) same
           by (again kept has said same none) = ap (λ i. i.own) same
           by (first none said takes fresh) = takes.own
@@ -139,7 +140,7 @@ module _ (w : WorldState) (h : IsSound w) (k server dest n : ℕ) (bytes : List 
       other_logs : (o : List ℕ) → o ≢ os.name → log_at o after.inbox.logs ≡ log_at o before.inbox.logs
       other_logs o apart = by comes
         where
-          by : Comes (txn_id w.epoch asks.t.number) os.name taking between.log before.inbox reply after.inbox is.fresh → log_at o after.inbox.logs ≡ log_at o before.inbox.logs
+          by : Comes (txn_id w.epoch asks.t.number) os.name taking between.log before.inbox reply after.inbox is.taken.fresh → log_at o after.inbox.logs ≡ log_at o before.inbox.logs
           by (nothing said same none) = ap (λ i. log_at o i.logs) same
           by (again kept has said same none) = ap (λ i. log_at o i.logs) same
           by (first none said takes fresh) = takes.others o apart
@@ -175,7 +176,7 @@ module _ (w : WorldState) (h : IsSound w) (k server dest n : ℕ) (bytes : List 
             lands = lands_answered server dest w.epoch os.name before.name (sent_of lane.outbox) between.log w.packets n reply given between.held.lands;
           }
 
-          by : Comes (txn_id w.epoch asks.t.number) os.name taking between.log before.inbox reply after.inbox is.fresh → Landed
+          by : Comes (txn_id w.epoch asks.t.number) os.name taking between.log before.inbox reply after.inbox is.taken.fresh → Landed
           by (nothing said same none) = without (inl said) same
           by (again kept has said same none) = without (inr (kept, said, kept_is kept has)) same
           by (first none said takes fresh) = record {
@@ -208,7 +209,7 @@ module _ (w : WorldState) (h : IsSound w) (k server dest n : ℕ) (bytes : List 
             name_is = ds_is.name_is ∙ ap Some (sym name_stays);
             named = subst IsServerName (sym name_stays) ds_is.named;
             inbox_own = inbox_own ∙ ds_is.inbox_own ∙ sym name_stays;
-            lanes = ap length lanes_stay ∙ ds_is.lanes;
+            ways = ap length lanes_stay ∙ ds_is.ways;
           }
 
           placed : (j : ℕ) (s : ServerState) → ((j ≡ dest) × (after ≡ s)) ⊎ ((j ≢ dest) × (slice_get w.servers j ≡ Some s)) → IsServerAt w.names (length (set w.servers dest after)) j s
@@ -230,7 +231,7 @@ module _ (w : WorldState) (h : IsSound w) (k server dest n : ℕ) (bytes : List 
           elsewhere o d other = record { no_request = λ m text e. not_a_request o d m text e; no_answer = λ m given e. other (same_ends o d m given e) }
 
           -- from another server to the receiver
-          to_it : (o : ℕ) (s : ServerState) (l : Lane) → slice_get w.servers o ≡ Some s → way_to s dest ≡ Some l → (o ≡ server) ⊎ (o ≢ server) → IsBetween o dest w.epoch s after l (w.packets ++ one ∷ [])
+          to_it : (o : ℕ) (s : ServerState) (l : Way) → slice_get w.servers o ≡ Some s → way_to s dest ≡ Some l → (o ≡ server) ⊎ (o ≢ server) → IsBetween o dest w.epoch s after l (w.packets ++ one ∷ [])
           to_it o s l eo there (inl from) =
               let same_server : os ≡ s = same_some os s (sym of ∙ ap (slice_get w.servers) (sym from) ∙ eo) in
               let same_lane : lane ≡ l = same_some lane l (sym way_is ∙ ap (λ x. way_to x dest) same_server ∙ there) in
@@ -255,7 +256,7 @@ module _ (w : WorldState) (h : IsSound w) (k server dest n : ℕ) (bytes : List 
               }
 
           -- from the receiver
-          from_it : (d : ℕ) (ds : ServerState) (l : Lane) → slice_get w.servers d ≡ Some ds → way_to after d ≡ Some l → IsBetween dest d w.epoch after ds l (w.packets ++ one ∷ [])
+          from_it : (d : ℕ) (ds : ServerState) (l : Way) → slice_get w.servers d ≡ Some ds → way_to after d ≡ Some l → IsBetween dest d w.epoch after ds l (w.packets ++ one ∷ [])
           from_it d ds l ed there =
               let way = way_there after d l there in
               let old_way = there_way before d l (record { apart = λ e. way.apart (e ∙ sym own_stays); within = ap (λ x. nat_lt d (length x)) (sym lanes_stay) ∙ way.within; is = ap (λ x. slice_get x d) (sym lanes_stay) ∙ way.is }) in
@@ -268,7 +269,7 @@ module _ (w : WorldState) (h : IsSound w) (k server dest n : ℕ) (bytes : List 
                     (subst (λ j. IsHeld dest d w.epoch before.name ds.name j l b.log (w.packets ++ one ∷ [])) (sym journal_stays) b.held);
               }
 
-          pair : (o d : ℕ) (s ds : ServerState) (l : Lane) → way_to s d ≡ Some l → ((o ≡ dest) × (after ≡ s)) ⊎ ((o ≢ dest) × (slice_get w.servers o ≡ Some s))
+          pair : (o d : ℕ) (s ds : ServerState) (l : Way) → way_to s d ≡ Some l → ((o ≡ dest) × (after ≡ s)) ⊎ ((o ≢ dest) × (slice_get w.servers o ≡ Some s))
               → ((d ≡ dest) × (after ≡ ds)) ⊎ ((d ≢ dest) × (slice_get w.servers d ≡ Some ds)) → IsBetween o d w.epoch s ds l (w.packets ++ one ∷ [])
           pair o d s ds l there (inl (here, it)) (inl (here_too, it_too)) = absurd ((way_there s d l there).apart (here_too ∙ sym now.own ∙ ap (λ x. x.own) it))
           pair o d s ds l there (inl (here, it)) (inr (differs, ed)) =
@@ -282,15 +283,15 @@ module _ (w : WorldState) (h : IsSound w) (k server dest n : ℕ) (bytes : List 
 
       -- ---- the answer
 
-      stays_whole : is.fresh ≡ [] → after.inbox ≡ before.inbox → after ≡ before
+      stays_whole : is.taken.fresh ≡ [] → after.inbox ≡ before.inbox → after ≡ before
       stays_whole none same =
           is.others ∙ (λ i. record {
             own = before.own;
             name = before.name;
             rooms = before.rooms;
-            arrivals = (ap (λ fresh. arrivals_from 0 w.known fresh before.arrivals) none ∙ nothing_arrives 0 w.known before.arrivals) i;
+            arrivals = (is.taken.queued ∙ ap (λ fresh. queues_from 0 w.known fresh before.arrivals) none ∙ nothing_arrives 0 w.known before.arrivals) i;
             journal = before.journal;
-            lanes = before.lanes;
+            ways = before.ways;
             inbox = same i;
           })
 
@@ -310,22 +311,22 @@ module _ (w : WorldState) (h : IsSound w) (k server dest n : ℕ) (bytes : List 
             ∙ ap (λ l. taken_edus_of before.inbox os.name ++ map canonical_text l) asks.takable.edus;
       }
 
-      pub answered_so : IsAnswered w server dest n before reply after
+      pub answered_so : IsAnswered w server dest n bytes before reply after
       answered_so = by comes
         where
-          by : Comes (txn_id w.epoch asks.t.number) os.name taking between.log before.inbox reply after.inbox is.fresh → IsAnswered w server dest n before reply after
-          by (nothing said same none) = subst (λ a. IsAnswered w server dest n before a after) (sym said) (subst (IsAnswered w server dest n before (refused OutOfMemory)) (sym (stays_whole none same)) answers.no_memory)
+          by : Comes (txn_id w.epoch asks.t.number) os.name taking between.log before.inbox reply after.inbox is.taken.fresh → IsAnswered w server dest n bytes before reply after
+          by (nothing said same none) = subst (λ a. IsAnswered w server dest n bytes before a after) (sym said) (subst (IsAnswered w server dest n bytes before (refused OutOfMemory)) (sym (stays_whole none same)) answers.no_memory)
           by (again kept has said same none) =
               let there = between.held.lands.replied n kept (kept_is kept has) in
               let given : WasGiven w server dest n reply = record { packet = there.0; packet_is = there.1 ∙ ap (λ a. Some (answer server dest n a)) (sym said); ok = ap (λ (a : Answer). a.status) said } in
-              subst (IsAnswered w server dest n before reply) (sym (stays_whole none same))
+              subst (IsAnswered w server dest n bytes before reply) (sym (stays_whole none same))
               (answers.again reply given (λ earlier was.
               let it = given_before earlier was in
               it.1 ∙ ap accepted (same_some it.0 kept (sym it.2 ∙ kept_is kept has)) ∙ sym said))
           by (first none said takes fresh) =
               answers.first reply after os lane asks.t
               (λ earlier was. let it = given_before earlier was in not_none it.0 (sym (not_kept none (Some it.0) it.2)))
-              (ap (λ (a : Answer). a.status) said) (record { server_is = of; way_is = way_is }) (unanswered none asks.alive) asks.number_is (all_taken none takes)
+              (ap (λ (a : Answer). a.status) said) (record { server_is = of; way_is = way_is }) (unanswered none asks.alive) asks.number_is asks.bytes_are (all_taken none takes)
 
 pub taken_lasts : (k : ℕ) (w : WorldState) (told : Outcome) (new : WorldState) → IsTaken k w told new → IsSound w → IsSound new
 taken_lasts k w _ _ (no_request none) h = h
@@ -338,7 +339,7 @@ same_packet a b m text c d n other e = (cc, cc, cc, cc)
 
 -- the request of a packet is answered in one of those ways
 pub taken_once : (w : WorldState) → IsSound w → (k server dest n : ℕ) (bytes : List ℕ) → packet_at w.packets k ≡ Some (request server dest n bytes) → (told : Outcome) (new : WorldState) → IsTaken k w told new
-    → IsAnsweredOnce w server dest n new
+    → IsAnsweredOnce w server dest n bytes new
 taken_once w h k server dest n bytes packet _ _ (no_request none) = absurd (none server dest n bytes packet)
 taken_once w h k server dest n bytes packet _ _ (no_text a b m text other none) =
     let same = same_packet server dest n bytes a b m text (sym packet ∙ other) in
@@ -354,7 +355,7 @@ taken_once w h k server dest n bytes packet _ _ (taken a b m text r before after
     by a b m text (same_packet server dest n bytes a b m text (sym packet ∙ other)) reads at
   where
     by : (a b m : ℕ) (text : List ℕ) → (server ≡ a) × (dest ≡ b) × (n ≡ m) × (bytes ≡ text) → IsRequestIn text r → slice_get w.servers b ≡ Some before
-        → IsAnsweredOnce w server dest n (with_packet (with_server w b after) (answer a b m reply))
+        → IsAnsweredOnce w server dest n bytes (with_packet (with_server w b after) (answer a b m reply))
     by a b m text same reads_it at_it =
         let there = ap (slice_get w.servers) same.1 ∙ at_it in
         let read = subst (λ t. IsRequestIn t r) (sym same.3) reads_it in

@@ -18,7 +18,7 @@ with_room s place room queue = record {
   rooms = set s.rooms place room;
   arrivals = set s.arrivals place queue;
   journal = s.journal;
-  lanes = s.lanes;
+  ways = s.ways;
   inbox = s.inbox;
 }
 

@@ -3,17 +3,17 @@
 -- and which were offered before its outbox closed; all that counts as delivered was taken; a repeated transaction gets its kept reply (Matrix,
 -- Server-Server API, "Transactions", "PDUs" and "EDUs"). Sends and closings are steps of a script, worker steps are too; what is lost,
 -- repeated or late is its free choice of the packets that it names.
-use Rattle.std.specs.Prelude.{◌≡◌, ◌≢◌, ◌≤◌, ℕ, List, ◌++◌, length, map, Some, Ok, slice_get}
+use Rattle.std.specs.Prelude.{◌≡◌, ◌≢◌, ◌≤◌, ℕ, true, List, ◌++◌, length, map, Some, slice_get}
 use Rattle.serde_json.specs.Data.{Data}
 use Rattle.fed_json.specs.CanonicalText.{canonical_text}
+use Rattle.fed_keys.specs.StandIn.{stand_in_key, stand_in_signature}
 use Rattle.fed_event.specs.Checked.{CheckedEvent}
-use Rattle.fed_room_contract.specs.Draft.{DraftFields}
-use Rattle.fed_room_contract.specs.Prepared.{PreparedEvent, prepared_of}
-use Rattle.fed_room_contract.specs.Room.{RoomState}
+use Rattle.fed_room_contract.specs.Graph.{is_stored}
+use Rattle.fed_room_contract.specs.Room.{RoomState, event_id}
 use Rattle.fed_room.specs.Room.{room_rules}
 use Rattle.fed_journal.specs.declared.entry.Entry.TheVariants as entry
 use Rattle.fed_journal.specs.Journal.{addressed, addressed_edus}
-use Rattle.fed_outbox.specs.Collecting.{Lane}
+use Rattle.fed_outbox.specs.Collecting.{Way}
 use Rattle.fed_outbox.specs.Transaction.{TransactionValue}
 use Rattle.fed_inbox.specs.declared.refusal.Refusal.TheVariants.{OutOfMemory}
 use Rattle.fed_inbox.specs.Inbox.{taken_of, taken_edus_of}
@@ -21,11 +21,12 @@ use Rattle.fed_inbox.specs.Reply.{Answer, refused}
 use Rattle.fed_sim.specs.declared.outcome.Outcome.{Outcome}
 use Rattle.fed_sim.specs.declared.setup.Setup.{Setup}
 use Rattle.fed_sim.specs.declared.step.Step.{Step}
-use Rattle.fed_sim.specs.Offering.{signer_named, AreDestinations}
+use Rattle.fed_dest.specs.Joined.{AreDestinations}
+use Rattle.fed_exchange.specs.Messages.{asked_of, bytes_sent}
 use Rattle.fed_sim.specs.Packets.{packet_at, with_packet, IsOn, IsTaken}
 use Rattle.fed_sim.specs.Running.{IsRun}
 use Rattle.fed_sim.specs.Server.{ServerState}
-use Rattle.fed_sim.specs.Steps.{Reached, Ran}
+use Rattle.fed_sim.specs.Steps.{Reached}
 use Rattle.fed_sim.specs.Ways.{way_to}
 use Rattle.fed_sim.specs.World.{request, answer, WorldState, with_server}
 
@@ -43,18 +44,18 @@ abbrev pub IsPrefixOf : List (List ℕ) → List (List ℕ) → Type 0
 IsPrefixOf front whole = (rest : List (List ℕ)) × (whole ≡ front ++ rest)
 
 -- From the server `origin` to another one, `dest`, at place d, on this way.
-pub record IsDelivered (origin dest : ServerState) (d : ℕ) (lane : Lane) : Type 0 where
+pub record IsDelivered (origin dest : ServerState) (d : ℕ) (way : Way) : Type 0 where
   -- what dest took of it is a prefix of what it addressed to dest
   pub events : IsPrefixOf (taken_of dest.inbox origin.name) (event_texts (addressed origin.journal d))
   pub edus : IsPrefixOf (taken_edus_of dest.inbox origin.name) (edu_texts (addressed_edus origin.journal d))
   -- what counts as delivered was taken
-  pub settled : length lane.outbox.settled ≤ length (taken_of dest.inbox origin.name)
-  pub settled_edus : length lane.outbox.settled_edus ≤ length (taken_edus_of dest.inbox origin.name)
+  pub settled : length way.outbox.settled ≤ length (taken_of dest.inbox origin.name)
+  pub settled_edus : length way.outbox.settled_edus ≤ length (taken_edus_of dest.inbox origin.name)
 
 -- There is a way from each server, by the name that is listed for it, to each other one, and it delivers.
 abbrev pub AllDelivered : WorldState → Type 0
 AllDelivered w = (o d : ℕ) (origin dest : ServerState) → slice_get w.servers o ≡ Some origin → slice_get w.servers d ≡ Some dest → o ≢ d
-    → (slice_get w.names o ≡ Some origin.name) × ((lane : Lane) × (way_to origin d ≡ Some lane) × IsDelivered origin dest d lane)
+    → (slice_get w.names o ≡ Some origin.name) × ((way : Way) × (way_to origin d ≡ Some way) × IsDelivered origin dest d way)
 
 -- ---- how requests are answered
 
@@ -69,29 +70,34 @@ pub record IsAllTaken (origin : List ℕ) (t : TransactionValue) (before after :
   pub events : taken_of after.inbox origin ≡ taken_of before.inbox origin ++ event_texts t.pdus
   pub edus : taken_edus_of after.inbox origin ≡ taken_edus_of before.inbox origin ++ edu_texts t.edus
 
--- What the request for transaction n of `server` is answered by `dest`, and what that one is then.
-pub data IsAnswered (w : WorldState) (server dest n : ℕ) (before : ServerState) : Answer → ServerState → Type 0 where
+-- the bytes are the request that brings a transaction from the one server to the other, signed by the first
+abbrev pub IsRequestOf : ℕ → ServerState → ServerState → TransactionValue → List ℕ → Type 0
+IsRequestOf epoch origin dest t bytes = bytes ≡ bytes_sent (asked_of origin.name dest.name epoch t) stand_in_key (stand_in_signature origin.name)
+
+-- What the request for transaction n of `server`, which has these bytes, is answered by `dest`, and what that one is then.
+pub data IsAnswered (w : WorldState) (server dest n : ℕ) (bytes : List ℕ) (before : ServerState) : Answer → ServerState → Type 0 where
   -- memory ran out: nothing is taken
-  no_memory : IsAnswered w server dest n before (refused OutOfMemory) before
+  no_memory : IsAnswered w server dest n bytes before (refused OutOfMemory) before
   -- it was answered with 200 before: it gets that reply, and nothing is taken
-  again : (reply : Answer) → WasGiven w server dest n reply → ((earlier : Answer) → WasGiven w server dest n earlier → earlier ≡ reply) → IsAnswered w server dest n before reply before
-  -- it was not: it is the transaction that waits for its answer at its origin, and all of it is taken
-  first : (reply : Answer) (after origin : ServerState) (lane : Lane) (t : TransactionValue) → ((earlier : Answer) → ¬ (WasGiven w server dest n earlier)) → reply.status ≡ 200
-      → IsOn w server dest origin lane → lane.outbox.unanswered ≡ Some t → t.number ≡ n → IsAllTaken origin.name t before after → IsAnswered w server dest n before reply after
+  again : (reply : Answer) → WasGiven w server dest n reply → ((earlier : Answer) → WasGiven w server dest n earlier → earlier ≡ reply) → IsAnswered w server dest n bytes before reply before
+  -- it was not: it is the request of the transaction that waits for its answer at its origin, and all of that is taken
+  first : (reply : Answer) (after origin : ServerState) (way : Way) (t : TransactionValue) → ((earlier : Answer) → ¬ (WasGiven w server dest n earlier)) → reply.status ≡ 200
+      → IsOn w server dest origin way → way.outbox.unanswered ≡ Some t → t.number ≡ n → IsRequestOf w.epoch origin before t bytes → IsAllTaken origin.name t before after
+      → IsAnswered w server dest n bytes before reply after
 
 -- the request of a packet is answered so, and the answer is on its way
-pub record IsAnsweredOnce (old : WorldState) (server dest n : ℕ) (new : WorldState) : Type 0 where
+pub record IsAnsweredOnce (old : WorldState) (server dest n : ℕ) (bytes : List ℕ) (new : WorldState) : Type 0 where
   pub before : ServerState
   pub after : ServerState
   pub reply : Answer
   pub before_is : slice_get old.servers dest ≡ Some before
-  pub answered : IsAnswered old server dest n before reply after
+  pub answered : IsAnswered old server dest n bytes before reply after
   pub new_is : new ≡ with_packet (with_server old dest after) (answer server dest n reply)
 
 -- In this world, and in those that come of it in rounds of calm, every request is answered so that reaches its server.
 abbrev pub TakesOnce : WorldState → Type 0
 TakesOnce w = (old : WorldState) → Reached w old → (k server dest n : ℕ) (bytes : List ℕ) → packet_at old.packets k ≡ Some (request server dest n bytes)
-    → (told : Outcome) (new : WorldState) → IsTaken k old told new → IsAnsweredOnce old server dest n new
+    → (told : Outcome) (new : WorldState) → IsTaken k old told new → IsAnsweredOnce old server dest n bytes new
 
 -- That is so of every world that a run leads to which begins with this setup: of each on the way of a run.
 abbrev pub AllTakeOnce : Setup → Type 0
@@ -99,35 +105,19 @@ AllTakeOnce setup = (steps : List Step) (replies : List Outcome) (w : WorldState
 
 -- ---- where events go
 
--- A server offers this event now: it makes it of a draft in one of its rooms, and these are the places of the servers, of these names, that are
--- joined in the state before it.
-pub record IsOfferedTo (names : List (List ℕ)) (s : ServerState) (event : CheckedEvent) (dests : List ℕ) : Type 0 where
+-- An event of a server's journal is stored in one of its rooms, and its destinations are the places of the servers, of these names, that are
+-- joined in the state before it in that room's graph.
+pub record IsOfRoom (names : List (List ℕ)) (s : ServerState) (event : CheckedEvent) (dests : List ℕ) : Type 0 where
   pub place : ℕ
   pub room : RoomState
   pub room_is : slice_get s.rooms place ≡ Some room
-  pub draft : DraftFields
-  pub prepared : PreparedEvent
-  pub prepared_is : prepared_of room_rules (signer_named s.name) room.stored draft ≡ Ok prepared
-  pub event_is : prepared.event ≡ event
-  pub destinations : AreDestinations room.stored prepared.before names s.own dests
+  pub stored : is_stored room.stored (event_id event) ≡ true
+  pub destinations : AreDestinations room.stored (room_rules.before room.stored event.event) names s.own dests
 
--- On the way to a world the server at a place offered the event to these destinations.
-pub record WasOfferedTo (setup : Setup) (w : WorldState) (place : ℕ) (event : CheckedEvent) (dests : List ℕ) : Type 0 where
-  pub steps : List Step
-  pub replies : List Outcome
-  pub old : WorldState
-  pub run : IsRun setup steps replies old
-  pub further : List Step
-  pub told : List Outcome
-  pub later : Ran old further told w
-  pub server : ServerState
-  pub server_is : slice_get old.servers place ≡ Some server
-  pub offered : IsOfferedTo old.names server event dests
-
--- So it was with each event of each journal.
-abbrev pub AllAreDestinations : Setup → WorldState → Type 0
-AllAreDestinations setup w = (place k : ℕ) (s : ServerState) (event : CheckedEvent) (dests : List ℕ) → slice_get w.servers place ≡ Some s → slice_get s.journal k ≡ Some (entry.Event event dests)
-    → WasOfferedTo setup w place event dests
+-- So it is with each event of each journal.
+abbrev pub AllAreDestinations : WorldState → Type 0
+AllAreDestinations w = (place k : ℕ) (s : ServerState) (event : CheckedEvent) (dests : List ℕ) → slice_get w.servers place ≡ Some s → slice_get s.journal k ≡ Some (entry.Event event dests)
+    → IsOfRoom w.names s event dests
 
 -- ---- the headline
 
@@ -135,6 +125,8 @@ AllAreDestinations setup w = (place k : ℕ) (s : ServerState) (event : CheckedE
 pub record Headline (setup : Setup) (steps : List Step) (replies : List Outcome) (w : WorldState) : Type 0 where
   -- each step did what it says, or memory ran out in it; so each cut took the first at most 50 events and 100 ephemeral data units
   pub ran : IsRun setup steps replies w
+  -- there are as many servers as names
+  pub count : length w.servers ≡ length w.names
   pub delivered : AllDelivered w
   pub takes : AllTakeOnce setup
-  pub destinations : AllAreDestinations setup w
+  pub destinations : AllAreDestinations w

@@ -1,15 +1,13 @@
 pub mod Setup
-pub mod Link
-pub mod LinkParts
+pub mod Way
+pub mod WayParts
 pub mod Hosted
 pub mod HostedParts
 pub mod Server
 pub mod ServerParts
-pub mod Entering
 pub mod Offering
 pub mod Sending
 pub mod Taking
-pub mod Messages
 pub mod Ways
 pub mod Arriving
 pub mod World

@@ -5,7 +5,7 @@ use Rattle.std.specs.List.{range_with_len}
 use Rattle.fed_dest.specs.ServerName.{IsServerName}
 use Rattle.fed_inbox.specs.Inbox.{new_inbox}
 use Rattle.fed_sim.specs.Hosted.{HostedState, rooms_of, arrivals_of}
-use Rattle.fed_sim.specs.Link.{new_lane}
+use Rattle.fed_sim.specs.Way.{new_way}
 use Rattle.fed_sim.specs.Server.{ServerState}
 
 -- the server of this place and name among these names, with these rooms; `known` are their ids
@@ -16,7 +16,7 @@ new_server names known own name hosted = record {
   rooms = rooms_of hosted;
   arrivals = arrivals_of hosted;
   journal = [];
-  lanes = map new_lane (range_with_len 0 (length names));
+  ways = map new_way (range_with_len 0 (length names));
   inbox = new_inbox finite.empty name names known;
 }
 

@@ -2,13 +2,13 @@
 use Rattle.std.specs.Prelude.{◌≡◌, ℕ, zero, suc, ◌+◌, true, false, List, [], ◌∷◌, ◌++◌, length, Option, Some, None, option_and_then, slice_get}
 use Rattle.fed_keys.specs.StandIn.{stand_in_key, stand_in_signature}
 use Rattle.fed_http.specs.Message.{RequestValue}
-use Rattle.fed_outbox.specs.Collecting.{Lane}
+use Rattle.fed_outbox.specs.Collecting.{Way}
 use Rattle.fed_outbox.specs.Outbox.{is_due}
 use Rattle.fed_outbox.specs.Transaction.{TransactionValue}
 use Rattle.fed_inbox.specs.Reply.{Answer}
 use Rattle.fed_sim.specs.declared.outcome.Outcome.{Outcome}
 use Rattle.fed_sim.specs.declared.outcome.Outcome.TheVariants.{NoSuchServer, NothingToPost, NotDue, Posted, NoSuchRequest, Answered, NoSuchAnswer}
-use Rattle.fed_sim.specs.Messages.{asked_of, bytes_sent, IsReadable, IsRequestIn, HasNoRequest, IsStatusOf}
+use Rattle.fed_exchange.specs.Messages.{asked_of, bytes_sent, IsReadable, IsRequestIn, HasNoRequest, IsStatusOf}
 use Rattle.fed_sim.specs.Server.{ServerState}
 use Rattle.fed_sim.specs.Taking.{IsReceived}
 use Rattle.fed_sim.specs.Ways.{way_to, IsOnWay, settling}
@@ -38,13 +38,13 @@ with_packet w packet = record {
 }
 
 -- the way from a server to a destination: there is one where both are listed and they are not the same
-abbrev pub way_from : WorldState → ℕ → ℕ → Option Lane
+abbrev pub way_from : WorldState → ℕ → ℕ → Option Way
 way_from w server dest = option_and_then (λ s. way_to s dest) (slice_get w.servers server)
 
 -- a listed server, and the way from it to a destination
-pub record IsOn (w : WorldState) (server dest : ℕ) (s : ServerState) (lane : Lane) : Type 0 where
+pub record IsOn (w : WorldState) (server dest : ℕ) (s : ServerState) (way : Way) : Type 0 where
   pub server_is : slice_get w.servers server ≡ Some s
-  pub way_is : way_to s dest ≡ Some lane
+  pub way_is : way_to s dest ≡ Some way
 
 -- the packet with the request for a transaction from a server to another one of this name
 abbrev pub request_for : WorldState → ℕ → ServerState → ℕ → List ℕ → TransactionValue → PacketState
@@ -55,11 +55,11 @@ pub data IsPosted (server dest : ℕ) (old : WorldState) : Outcome → WorldStat
   no_sender : slice_get old.servers server ≡ None → IsPosted server dest old NoSuchServer old
   no_way : (s : ServerState) → slice_get old.servers server ≡ Some s → way_to s dest ≡ None → IsPosted server dest old NoSuchServer old
   no_name : slice_get old.names dest ≡ None → IsPosted server dest old NoSuchServer old
-  nothing : (s : ServerState) (lane : Lane) → IsOn old server dest s lane → lane.outbox.unanswered ≡ None → IsPosted server dest old NothingToPost old
-  not_due : (s : ServerState) (lane : Lane) (t : TransactionValue) → IsOn old server dest s lane → lane.outbox.unanswered ≡ Some t
-      → is_due lane.outbox old.now ≡ false → IsPosted server dest old (NotDue lane.outbox.due_at) old
-  posted : (s : ServerState) (lane : Lane) (t : TransactionValue) (name : List ℕ) → IsOn old server dest s lane → lane.outbox.unanswered ≡ Some t
-      → is_due lane.outbox old.now ≡ true → slice_get old.names dest ≡ Some name → IsReadable s.name old.epoch t
+  nothing : (s : ServerState) (way : Way) → IsOn old server dest s way → way.outbox.unanswered ≡ None → IsPosted server dest old NothingToPost old
+  not_due : (s : ServerState) (way : Way) (t : TransactionValue) → IsOn old server dest s way → way.outbox.unanswered ≡ Some t
+      → is_due way.outbox old.now ≡ false → IsPosted server dest old (NotDue way.outbox.due_at) old
+  posted : (s : ServerState) (way : Way) (t : TransactionValue) (name : List ℕ) → IsOn old server dest s way → way.outbox.unanswered ≡ Some t
+      → is_due way.outbox old.now ≡ true → slice_get old.names dest ≡ Some name → IsReadable s.name old.epoch t
       → IsPosted server dest old (Posted (length old.packets + 1)) (with_packet old (request_for old server s dest name t))
 
 -- What is told when the request of packet k reaches its server, and what the world is then.

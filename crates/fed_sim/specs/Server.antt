@@ -3,7 +3,7 @@ use Rattle.std.specs.Prelude.{ℕ, List}
 use Rattle.fed_event.specs.Checked.{CheckedEvent}
 use Rattle.fed_room_contract.specs.Room.{RoomState}
 use Rattle.fed_journal.specs.declared.entry.Entry.{Entry}
-use Rattle.fed_outbox.specs.Collecting.{Lane}
+use Rattle.fed_outbox.specs.Collecting.{Way}
 use Rattle.fed_inbox.specs.Inbox.{InboxState}
 
 pub record ServerState : Type 0 where
@@ -15,5 +15,5 @@ pub record ServerState : Type 0 where
   pub arrivals : List (List CheckedEvent)
   pub journal : List Entry
   -- by the places of the destinations
-  pub lanes : List Lane
+  pub ways : List Way
   pub inbox : InboxState

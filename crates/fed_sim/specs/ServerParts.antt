@@ -1,6 +1,6 @@
 -- The server that the fields of a `Server` stand for.
 use Rattle.fed_sim.specs.declared.server.Server.{Server}
-use Rattle.fed_sim.specs.Link.{lanes_of}
+use Rattle.fed_sim.specs.Way.{ways_of}
 use Rattle.fed_sim.specs.Hosted.{rooms_of, arrivals_of}
 use Rattle.fed_sim.specs.Server.{ServerState}
 
@@ -11,6 +11,6 @@ server_of s = record {
   rooms = rooms_of s.rooms.items;
   arrivals = arrivals_of s.rooms.items;
   journal = s.journal.entries;
-  lanes = lanes_of s.links.items;
+  ways = ways_of s.ways.items;
   inbox = s.inbox.state;
 }

@@ -1,6 +1,6 @@
 -- What is told of what a server took from another one.
 use Rattle.std.specs.Prelude.{◌≡◌, ◌-◌, ◌^◌, ℕ, List, length, min, Some, None, slice_get}
-use Rattle.fed_outbox.specs.Collecting.{Lane}
+use Rattle.fed_outbox.specs.Collecting.{Way}
 use Rattle.fed_inbox.specs.Inbox.{taken_of, taken_edus_of}
 use Rattle.fed_sim.specs.declared.outcome.Outcome.{Outcome}
 use Rattle.fed_sim.specs.declared.outcome.Outcome.TheVariants.{NoSuchServer, Shown}
@@ -17,5 +17,5 @@ pub data IsShown (server origin : ℕ) (w : WorldState) : Outcome → Type 0 whe
   no_server : slice_get w.servers server ≡ None → IsShown server origin w NoSuchServer
   no_way : way_from w origin server ≡ None → IsShown server origin w NoSuchServer
   no_name : slice_get w.names origin ≡ None → IsShown server origin w NoSuchServer
-  shown : (s : ServerState) (lane : Lane) (name : List ℕ) → slice_get w.servers server ≡ Some s → way_from w origin server ≡ Some lane → slice_get w.names origin ≡ Some name
-      → IsShown server origin w (Shown (count_of (taken_of s.inbox name)) (count_of (taken_edus_of s.inbox name)) (length lane.outbox.settled) (length lane.outbox.settled_edus))
+  shown : (s : ServerState) (way : Way) (name : List ℕ) → slice_get w.servers server ≡ Some s → way_from w origin server ≡ Some way → slice_get w.names origin ≡ Some name
+      → IsShown server origin w (Shown (count_of (taken_of s.inbox name)) (count_of (taken_edus_of s.inbox name)) (length way.outbox.settled) (length way.outbox.settled_edus))

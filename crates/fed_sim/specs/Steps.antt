@@ -47,7 +47,8 @@ Does (Tick ms) old = λ told new. (told, new) ≡ ticked ms old
 Does (Show server origin) old = λ told new. IsShown server origin old told × (new ≡ old)
 Does (Calm rounds) old = λ told new. (told ≡ outcome.Calm new.now) × Reached old new
 
--- What a step leaves where memory runs out: the world as it was, but where a room was given an event.
+-- What a step leaves where memory runs out: the world as it was, but where a room was given an event. Cutting, failing, waiting and showing take
+-- no memory.
 abbrev pub Leaves : Step → WorldState → WorldState → Type 0
 Leaves (Apply server room) old new = AtServerInPart server (IsGivenInPart old.known (string_bytes room)) old new
 Leaves (Calm rounds) old new = ReachedInPart old new
@@ -55,13 +56,13 @@ Leaves (Offer server draft) old new = new ≡ old
 Leaves (OfferEdu server edu dests) old new = new ≡ old
 Leaves (Close server dest) old new = new ≡ old
 Leaves (Collect server dest) old new = new ≡ old
-Leaves (Cut server dest) old new = new ≡ old
-Leaves (Failed server dest) old new = new ≡ old
+Leaves (Cut server dest) old new = ⊥
+Leaves (Failed server dest) old new = ⊥
 Leaves (Post server dest) old new = new ≡ old
 Leaves (Take packet) old new = new ≡ old
 Leaves (Settle packet) old new = new ≡ old
-Leaves (Tick ms) old new = new ≡ old
-Leaves (Show server origin) old new = new ≡ old
+Leaves (Tick ms) old new = ⊥
+Leaves (Show server origin) old new = ⊥
 
 -- a step was made, or memory ran out in it
 pub data Makes (step : Step) (old : WorldState) (told : Outcome) (new : WorldState) : Type 0 where

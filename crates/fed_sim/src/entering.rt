@@ -2,14 +2,15 @@
 ghost use Rattle.std.specs.Prelude.{◌≡◌, ◌<◌, OnOk, OnErr, IfOk, true, length};
 ghost use Rattle.std.specs.List.{filter_map};
 ghost use Rattle.std.specs.List.Sorted.{IsStrictlyIncreasing};
-ghost use Rattle.fed_sim.specs.Link.{lanes_of};
-ghost use Rattle.fed_sim.specs.Entering.{load_of, open_among, has_place};
-ghost use Rattle.fed_sim.specs.Sending.{HasRoom, parcel_to, pushed_from, entered_told, entries_after, lanes_after};
+ghost use Rattle.fed_sim.specs.Way.{ways_of};
+ghost use Rattle.fed_journal.specs.Offered.{load_of};
+ghost use Rattle.fed_journal.specs.Offering.{open_among, has_place};
+ghost use Rattle.fed_journal.specs.Queues.{parcel_to};
+ghost use Rattle.fed_sim.specs.Sending.{HasRoom, pushed_from, entered_told, entries_after, ways_after};
 
-use crate::link::Link;
-use crate::offered::Offered;
+use crate::way::Way;
 use fed_dest::ServerSet;
-use fed_journal::{Journal, JournalFault, Parcel};
+use fed_journal::{Journal, JournalFault, Offered, Parcel};
 use fed_json::NoMemory;
 use std::alloc::Global;
 
@@ -25,25 +26,25 @@ pub(crate) struct Entered {
 pub(crate) fn enter(
     alloc: Global,
     journal: &mut Journal,
-    links: &mut [Link],
+    ways: &mut [Way],
     offered: Offered,
     dests: ServerSet,
 ) -> Result<Option<Entered>, NoMemory>
     ensures told { IfOk result (λ told. told ≡ entered_told offered dests journal.old.entries) }
     ensures rising { OnOk result (IsStrictlyIncreasing dests) }
     ensures entries { OnOk result (journal.new.entries ≡ entries_after offered dests journal.old.entries) }
-    ensures lanes { OnOk result (lanes_of links.new ≡ lanes_after offered dests journal.old.entries (lanes_of links.old)) }
+    ensures ways { OnOk result (ways_of ways.new ≡ ways_after offered dests journal.old.entries (ways_of ways.old)) }
     ensures err { OnErr result (journal.new.entries ≡ journal.old.entries) }
-    ensures err_lanes { OnErr result (lanes_of links.new ≡ lanes_of links.old) }
-    ensures count { length links.new ≡ length links.old }
+    ensures err_ways { OnErr result (ways_of ways.new ≡ ways_of ways.old) }
+    ensures count { length ways.new ≡ length ways.old }
 {
     let reached = open_among(alloc, journal, &dests)?;
     let parcels = parcels_to(alloc, journal, &dests, &offered)?;
-    if !reserve(journal, links, parcels.len())? {
+    if !reserve(journal, ways, parcels.len())? {
         return Ok(None);
     }
     let number = offered.append_to(journal, dests);
-    push_all(links, parcels);
+    push_all(ways, parcels);
     Ok(Some(Entered {
         number,
         dests: reached,
@@ -81,45 +82,45 @@ fn parcels_to(
 
 // Makes room in the journal for an entry and for as many closings as it places parcels, and on each way for these. False where the
 // journal has no place for them.
-fn reserve(journal: &mut Journal, links: &mut [Link], parcels: usize) -> Result<bool, NoMemory>
+fn reserve(journal: &mut Journal, ways: &mut [Way], parcels: usize) -> Result<bool, NoMemory>
     ensures told { IfOk result (λ fits. fits ≡ has_place journal.old.entries parcels) }
     ensures reserved { IfOk result (λ fits. fits ≡ true → 0 < journal.new.reserved) }
-    ensures room { IfOk result (λ fits. fits ≡ true → HasRoom parcels links.new) }
+    ensures room { IfOk result (λ fits. fits ≡ true → HasRoom parcels ways.new) }
     ensures entries { journal.new.entries ≡ journal.old.entries }
-    ensures lanes { lanes_of links.new ≡ lanes_of links.old }
-    ensures count { length links.new ≡ length links.old }
+    ensures ways { ways_of ways.new ≡ ways_of ways.old }
+    ensures count { length ways.new ≡ length ways.old }
 {
     match journal.reserve((parcels as u64).saturating_add(1)) {
         Ok(()) => {}
         Err(JournalFault::Memory) => return Err(NoMemory),
         Err(JournalFault::Limit) => return Ok(false),
     }
-    make_room(links, parcels)?;
+    make_room(ways, parcels)?;
     Ok(true)
 }
 
 // Makes room for so many more parcels on each way.
-fn make_room(links: &mut [Link], more: usize) -> Result<(), NoMemory>
-    ensures ok { OnOk result (HasRoom more links.new) }
-    ensures lanes { lanes_of links.new ≡ lanes_of links.old }
-    ensures count { length links.new ≡ length links.old }
+fn make_room(ways: &mut [Way], more: usize) -> Result<(), NoMemory>
+    ensures ok { OnOk result (HasRoom more ways.new) }
+    ensures ways { ways_of ways.new ≡ ways_of ways.old }
+    ensures count { length ways.new ≡ length ways.old }
 {
-    for link in links.iter_mut() {
-        link.make_room(more)?;
+    for way in ways.iter_mut() {
+        way.make_room(more)?;
     }
     Ok(())
 }
 
 // Each parcel waits on the way to its destination.
-fn push_all(links: &mut [Link], parcels: Vec<Parcel>)
-    requires { HasRoom (length parcels.items) links.old }
-    ensures lanes { lanes_of links.new ≡ pushed_from 0 parcels.items (lanes_of links.old) }
-    ensures count { length links.new ≡ length links.old }
+fn push_all(ways: &mut [Way], parcels: Vec<Parcel>)
+    requires { HasRoom (length parcels.items) ways.old }
+    ensures ways { ways_of ways.new ≡ pushed_from 0 parcels.items (ways_of ways.old) }
+    ensures count { length ways.new ≡ length ways.old }
 {
     for parcel in parcels {
         let place = parcel.place.dest().place();
-        if place < links.len() {
-            links[place].push(parcel);
+        if place < ways.len() {
+            ways[place].push(parcel);
         } else {
             // It is for no one.
             drop(parcel);

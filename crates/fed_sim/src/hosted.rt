@@ -4,7 +4,7 @@ ghost use Rattle.std.specs.Prelude.{◌≡◌, ◌⊎◌, ◌≤◌, ◌<◌, �
 use fed_event::{Checked, Keys};
 use fed_json::NoMemory;
 use fed_room::Room;
-use fed_room_contract::{Applied, Draft, Prepared, Refusal, RoomEngine, apply};
+use fed_room_contract::{Applied, Draft, Prepared, Refusal, RoomEngine, Stopped, apply};
 use std::alloc::Global;
 use std::collections::VecDeque;
 use std::marker::Model;
@@ -121,13 +121,12 @@ impl Hosted {
         };
         match apply(alloc, &mut self.room, event) {
             Ok(applied) => Ok(Some(applied)),
-            Err((event, error)) => {
-                if let Some(event) = event {
-                    // Its place is free.
-                    self.queue.push_front(event).unwrap();
-                }
-                Err(error)
+            Err(Stopped::NotReceived(event)) => {
+                // Its place is free.
+                self.queue.push_front(event).unwrap();
+                Err(NoMemory)
             }
+            Err(Stopped::Received(_)) => Err(NoMemory),
         }
     }
 }

@@ -4,16 +4,14 @@
 //! - `setup`: `Setup`, what a world begins with
 //! - `setup_check`: whether a world can begin so
 //! - `step`, `outcome`: `Step` and `Outcome`, the steps of a world and what they answer
-//! - `link`: `Link`, the way of parcels from a journal to one destination
+//! - `way`: `Way`, the way of parcels from a journal to one destination
 //! - `hosted`: `Hosted`, a room at a server, and the events in front of it
 //! - `server`: `Server`, what a server keeps
-//! - `offered`: `Offered`, an event or an ephemeral data unit that a server offers
 //! - `entering`: what is offered gets into a journal, and on its way
 //! - `offering`: what a server sends
 //! - `receiving`: what a server takes
 //! - `arriving`: what is taken for a room gets into it
 //! - `ways`: what a server does on the way to one destination
-//! - `messages`: from transactions to the bytes of requests, and from bytes to what they say
 //! - `packet`: `Packet`, what is on its way
 //! - `world`: `World`
 //! - `seen`: what others see of it
@@ -28,10 +26,7 @@ mod arriving;
 mod entering;
 mod hosted;
 mod laws;
-mod link;
 mod making;
-mod messages;
-mod offered;
 mod offering;
 mod outcome;
 mod packet;
@@ -44,6 +39,7 @@ mod server;
 mod setup;
 mod setup_check;
 mod step;
+mod way;
 mod ways;
 mod world;
 

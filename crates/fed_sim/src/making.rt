@@ -9,13 +9,13 @@ ghost use Rattle.fed_sim.specs.Steps.{Reached, Does, Leaves, Makes};
 ghost use Rattle.fed_sim.specs.Ways.{IsOnWay, collecting, cutting, failing};
 ghost use Rattle.fed_sim.specs.World.{AtServer, AtServerInPart, dated, ticked};
 
-use crate::messages::{read_request, request_bytes, status_read};
 use crate::outcome::Outcome;
 use crate::packet::Packet;
 use crate::rounds::calm_rounds;
 use crate::step::Step;
 use crate::world::{MAX_MOMENT, World};
 use fed_dest::{ServerIndex, ServerSet};
+use fed_exchange::{read_request, read_status, request_bytes};
 use fed_inbox::Taken;
 use fed_json::{Json, NoMemory};
 use fed_room_contract::Draft;
@@ -163,7 +163,7 @@ impl World {
         if !sender.has_way(dest) {
             return Ok(Outcome::NoSuchServer);
         }
-        let outbox = sender.links[dest.place()].outbox();
+        let outbox = sender.ways[dest.place()].outbox();
         let Some(transaction) = outbox.unanswered() else {
             return Ok(Outcome::NothingToPost);
         };
@@ -252,7 +252,7 @@ impl World {
             return Ok(Outcome::NoSuchAnswer);
         };
         let (server, dest, number) = (*server, *dest, *number);
-        let status = status_read(alloc, reply)?;
+        let status = read_status(alloc, reply)?;
         if !self.has_server(server) {
             return Ok(Outcome::NoSuchServer);
         }

@@ -7,27 +7,19 @@ ghost use Rattle.fed_dest.specs.ServerSet.{is_among};
 ghost use Rattle.fed_dest.specs.Joined.{is_destination};
 ghost use Rattle.fed_sim.specs.declared.outcome.Outcome.TheVariants.{NotSent};
 ghost use Rattle.fed_sim.specs.declared.outcome.SendRefusal.TheVariants.{NotMade};
-ghost use Rattle.fed_sim.specs.Offering.{IsOffered, IsOfferedAt, IsEduOffered, IsClosedFor, signer_named, others_among, edu_refusal};
+ghost use Rattle.fed_sim.specs.Offering.{IsOffered, IsOfferedAt, IsEduOffered, IsClosedFor, signer_named, others_among};
 
 use crate::entering::{Entered, enter};
 use crate::hosted::Hosted;
-use crate::offered::Offered;
 use crate::outcome::{EduRefusal, Outcome, SendRefusal};
 use crate::receiving::place_of;
 use crate::server::Server;
 use fed_dest::{List, ServerIndex, ServerSet, destinations};
 use fed_event::{Checked, StandIn};
-use fed_inbox::is_edu;
-use fed_journal::{Cause, JournalFault, Load, Parcel};
-use fed_json::{Json, NoMemory, canonical};
+use fed_journal::{Cause, JournalFault, Load, Offered, Parcel, edu_fault};
+use fed_json::{Json, NoMemory};
 use fed_room_contract::{Draft, Prepared, Refusal, RoomEngine};
 use std::alloc::Global;
-
-/// The most bytes of the canonical text of an ephemeral data unit that is sent.
-const MAX_EDU: usize = 65_536;
-
-/// The most levels that it nests.
-const MAX_EDU_DEPTH: usize = 100;
 
 impl Server {
     ghost use Rattle.fed_sim.specs.ServerParts.{server_of};
@@ -74,7 +66,7 @@ impl Server {
             dests,
         } = outgoing;
         let offered = Offered::Event(event);
-        match enter(alloc, &mut self.journal, &mut self.links, offered, dests)? {
+        match enter(alloc, &mut self.journal, &mut self.ways, offered, dests)? {
             Some(Entered { number, dests }) => {
                 hosted.commit(prepared);
                 Ok(Outcome::Sent { number, dests })
@@ -94,12 +86,12 @@ impl Server {
         ensures offered { IfOk result (λ outcome. IsEduOffered edu.now dests.now (server_of self.old) outcome (server_of self.new)) }
         ensures err { OnErr result (server_of self.new ≡ server_of self.old) }
     {
-        if let Some(refusal) = edu_fault(alloc, edu)? {
-            return Ok(Outcome::EduNotSent(refusal));
+        if let Some(fault) = edu_fault(alloc, edu)? {
+            return Ok(Outcome::EduNotSent(EduRefusal::NotEdu(fault)));
         }
-        let dests = others_among(alloc, dests, self.own, self.links.len())?;
+        let dests = others_among(alloc, dests, self.own, self.ways.len())?;
         let offered = Offered::Edu(edu.copy()?);
-        match enter(alloc, &mut self.journal, &mut self.links, offered, dests)? {
+        match enter(alloc, &mut self.journal, &mut self.ways, offered, dests)? {
             Some(Entered { dests, .. }) => Ok(Outcome::EduSent { dests }),
             None => Ok(Outcome::EduNotSent(EduRefusal::Limit)),
         }
@@ -113,7 +105,7 @@ impl Server {
         if dest == self.own {
             return Ok(Outcome::NoSuchServer);
         }
-        if self.links.len() <= dest.place() {
+        if self.ways.len() <= dest.place() {
             return Ok(Outcome::NoSuchServer);
         }
         let Some(place) = self.journal.place(dest) else {
@@ -124,10 +116,10 @@ impl Server {
             Err(JournalFault::Memory) => return Err(NoMemory),
             Err(JournalFault::Limit) => return Ok(Outcome::NotClosed),
         }
-        let link = &mut self.links[dest.place()];
-        link.make_room(1)?;
+        let way = &mut self.ways[dest.place()];
+        way.make_room(1)?;
         let load = Load::End;
-        link.push(Parcel { place, load });
+        way.push(Parcel { place, load });
         self.journal.close(dest, Cause::Asked);
         Ok(Outcome::Closed)
     }
@@ -181,22 +173,6 @@ fn not_made(refusal: Refusal) -> Result<Outcome, NoMemory>
             Ok(Outcome::NotSent(SendRefusal::NotMade(refusal)))
         }
     }
-}
-
-// Why a value is not sent as an ephemeral data unit.
-fn edu_fault(alloc: Global, edu: &Json) -> Result<Option<EduRefusal>, NoMemory>
-    ensures { IfOk result (λ fault. fault ≡ edu_refusal edu.now) }
-{
-    if !is_edu(edu) {
-        return Ok(Some(EduRefusal::BadEdu));
-    }
-    if canonical(alloc, edu)?.len() > MAX_EDU {
-        return Ok(Some(EduRefusal::TooLarge));
-    }
-    if edu.depth() > MAX_EDU_DEPTH {
-        return Ok(Some(EduRefusal::TooDeep));
-    }
-    Ok(None)
 }
 
 // Those of the servers that are among so many and are not this one.

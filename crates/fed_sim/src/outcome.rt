@@ -1,5 +1,6 @@
 // What steps of a world answer.
 use fed_dest::ServerSet;
+use fed_journal::EduFault;
 use fed_outbox::Settlement;
 use fed_room_contract::{Receipt, Refusal};
 use thiserror::Error;
@@ -21,15 +22,9 @@ pub enum SendRefusal {
 /// Why an ephemeral data unit is not sent.
 #[derive(Clone, Copy, Debug, PartialEq, Eq, Error)]
 pub enum EduRefusal {
-    /// It is no object with a text `edu_type` and an object `content`.
-    #[error("bad edu")]
-    BadEdu,
-    /// Its canonical text has over 65,536 bytes.
-    #[error("edu too large")]
-    TooLarge,
-    /// It nests more than 100 levels.
-    #[error("edu too deep")]
-    TooDeep,
+    /// It is none that may be offered.
+    #[error("{0}")]
+    NotEdu(EduFault),
     /// The journal has no place for it and for the closings of all its destinations.
     #[error("limit")]
     Limit,

@@ -1,7 +1,8 @@
 // What a server takes.
 ghost use Rattle.std.specs.Prelude.{◌≡◌, OnOk, OnErr, IfOk, length, map, position, bytes_eq, string_bytes};
 ghost use Rattle.fed_sim.specs.Hosted.{rooms_of, arrivals_of};
-ghost use Rattle.fed_sim.specs.Taking.{HasRoom, IsReceived, arrivals_from};
+ghost use Rattle.fed_inbox.specs.Queues.{queues_after};
+ghost use Rattle.fed_sim.specs.Taking.{HasRoom, IsReceived};
 
 use crate::hosted::Hosted;
 use crate::server::Server;
@@ -59,7 +60,7 @@ fn make_room(rooms: &mut [Hosted]) -> Result<(), NoMemory>
 fn push_all(rooms: &mut [Hosted], known: &[String], events: Vec<Checked>)
     requires { HasRoom (length events.items) rooms.old }
     ensures rooms { rooms_of rooms.new ≡ rooms_of rooms.old }
-    ensures arrivals { arrivals_of rooms.new ≡ arrivals_from 0 (map string_bytes known.now) events.items (arrivals_of rooms.old) }
+    ensures arrivals { arrivals_of rooms.new ≡ queues_after (map string_bytes known.now) events.items (arrivals_of rooms.old) }
     ensures count { length rooms.new ≡ length rooms.old }
 {
     for event in events {

@@ -24,9 +24,10 @@ use std::alloc::Global;
 /// The world that begins with a setup, after these steps. A step that is refused stands as refused among the `replies`.
 ///
 /// What a server of that world took of another one is a prefix, in order and each once, of what that one addressed to it; what counts as
-/// delivered was taken. A request that reaches its server on the way there is taken whole, where its transaction was not answered with 200
-/// before, and else gets that answer again; or memory runs out, it is answered with 500, and nothing is taken. Each event of a journal was
-/// offered to just the servers that are joined in the state before it (Matrix, Server-Server API, "Transactions", "PDUs").
+/// delivered was taken. A request that reaches its server on the way there is the text of what its origin's outbox holds as unanswered and is
+/// taken whole, where its transaction was not answered with 200 before, and else gets that answer again; or memory runs out, it is answered
+/// with 500, and nothing is taken. Each event of a journal is stored in a room of its server, and its destinations are just the other listed
+/// servers that are joined in the state before it in that room's graph (Matrix, Server-Server API, "Transactions", "PDUs").
 ///
 /// # Errors
 ///

@@ -5,9 +5,9 @@ ghost use Rattle.fed_sim.specs.Packets.{way_from};
 ghost use Rattle.fed_sim.specs.WorldParts.{packet_of, world_of};
 
 use crate::hosted::Hosted;
-use crate::link::Link;
 use crate::outcome::Outcome;
 use crate::packet::Packet;
+use crate::way::Way;
 use crate::world::World;
 use fed_dest::{ServerIndex, ServerName};
 use fed_inbox::Inbox;
@@ -60,9 +60,9 @@ impl World {
 
     /// The outbox of a server for a destination; `None` where one of them is not listed or both are the same.
     pub fn outbox(&self, server: ServerIndex, dest: ServerIndex) -> Option<&Outbox>
-        ensures { option_map (λ outbox. outbox.now) result ≡ option_map (λ lane. lane.outbox) (way_from (world_of self.entry.now) server dest) }
+        ensures { option_map (λ outbox. outbox.now) result ≡ option_map (λ way. way.outbox) (way_from (world_of self.entry.now) server dest) }
     {
-        Some(self.servers.get(server.place())?.link(dest)?.outbox())
+        Some(self.servers.get(server.place())?.way(dest)?.outbox())
     }
 
     /// The inbox of a server; `None` where it is not listed.
@@ -74,8 +74,8 @@ impl World {
 
     /// How many parcels of a server wait for a destination.
     pub(crate) fn queued(&self, server: ServerIndex, dest: ServerIndex) -> usize {
-        match self.link(server, dest) {
-            Some(link) => link.queued(),
+        match self.way(server, dest) {
+            Some(way) => way.queued(),
             None => 0,
         }
     }
@@ -96,7 +96,7 @@ impl World {
     }
 
     // The way from a server to a destination.
-    fn link(&self, server: ServerIndex, dest: ServerIndex) -> Option<&Link> {
-        self.servers.get(server.place())?.link(dest)
+    fn way(&self, server: ServerIndex, dest: ServerIndex) -> Option<&Way> {
+        self.servers.get(server.place())?.way(dest)
     }
 }

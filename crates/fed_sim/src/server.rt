@@ -1,12 +1,12 @@
 // What a server keeps.
 ghost use Rattle.std.specs.Prelude.{◌≡◌, ◌<◌, ◌≤◌, IfOk, length, map, option_map, string_bytes};
 ghost use Rattle.std.specs.List.{range_with_len};
-ghost use Rattle.fed_sim.specs.Link.{lanes_of, new_lane};
+ghost use Rattle.fed_sim.specs.Way.{ways_of, new_way};
 ghost use Rattle.fed_sim.specs.NewServer.{IsNewServer};
 ghost use Rattle.fed_sim.specs.Ways.{way_to};
 
 use crate::hosted::Hosted;
-use crate::link::Link;
+use crate::way::Way;
 use fed_dest::{List, ServerIndex};
 use fed_event::StandIn;
 use fed_inbox::Inbox;
@@ -22,7 +22,7 @@ pub(crate) struct Server {
     pub(crate) keys: StandIn,
     pub(crate) rooms: Vec<Hosted>,
     pub(crate) journal: Journal,
-    pub(crate) links: Vec<Link>,
+    pub(crate) ways: Vec<Way>,
     pub(crate) inbox: Inbox<ListStore>,
 }
 
@@ -49,19 +49,19 @@ impl Server {
             keys: keys_of(alloc, list.name(own))?,
             rooms,
             journal: Journal::new(alloc)?,
-            links: links(alloc, list.len())?,
+            ways: ways(alloc, list.len())?,
             inbox,
         })
     }
 
     /// The way to a destination: to a listed server other than this one.
-    pub(crate) fn link(&self, dest: ServerIndex) -> Option<&Link>
-        ensures { option_map (λ link. link.now.lane) result ≡ way_to (server_of self.entry.now) dest }
+    pub(crate) fn way(&self, dest: ServerIndex) -> Option<&Way>
+        ensures { option_map (λ way. way.now.way) result ≡ way_to (server_of self.entry.now) dest }
     {
         if dest == self.own {
             return None;
         }
-        self.links.get(dest.place())
+        self.ways.get(dest.place())
     }
 }
 
@@ -74,15 +74,15 @@ pub(crate) fn keys_of(alloc: Global, name: &str) -> Result<StandIn, NoMemory>
 }
 
 // The ways to so many servers.
-fn links(alloc: Global, count: usize) -> Result<Vec<Link>, NoMemory>
+fn ways(alloc: Global, count: usize) -> Result<Vec<Way>, NoMemory>
     requires { count ≤ 64 }
-    ensures { IfOk result (λ links. lanes_of links.items ≡ map new_lane (range_with_len 0 count)) }
+    ensures { IfOk result (λ ways. ways_of ways.items ≡ map new_way (range_with_len 0 count)) }
 {
-    let mut links = Vec::with_capacity(alloc, count)?;
+    let mut ways = Vec::with_capacity(alloc, count)?;
     for place in 0..count {
-        links.push(Link::new(alloc, ServerIndex::new(place)))?;
+        ways.push(Way::new(alloc, ServerIndex::new(place)))?;
     }
-    Ok(links)
+    Ok(ways)
 }
 
 // Equal texts.

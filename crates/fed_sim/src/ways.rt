@@ -2,9 +2,9 @@
 ghost use Rattle.std.specs.Prelude.{◌≡◌, ◌≤◌, OnErr, IfOk};
 ghost use Rattle.fed_sim.specs.Ways.{has_way, on_way, collecting, cutting, failing, settling};
 
-use crate::link::Cut;
 use crate::outcome::Outcome;
 use crate::server::Server;
+use crate::way::Cut;
 use fed_dest::ServerIndex;
 use fed_json::NoMemory;
 
@@ -15,7 +15,7 @@ impl Server {
     pub(crate) fn has_way(&self, dest: ServerIndex) -> bool
         ensures { result ≡ has_way (server_of self.now) dest }
     {
-        dest != self.own && dest.place() < self.links.len()
+        dest != self.own && dest.place() < self.ways.len()
     }
 
     /// The first parcel for a destination goes into its outbox. Nothing changes where memory runs out.
@@ -26,7 +26,7 @@ impl Server {
         if !self.has_way(dest) {
             return Ok(Outcome::NoSuchServer);
         }
-        match self.links[dest.place()].collect()? {
+        match self.ways[dest.place()].collect()? {
             Some(kind) => Ok(Outcome::Collected(kind)),
             None => Ok(Outcome::NothingCollected),
         }
@@ -40,7 +40,7 @@ impl Server {
         if !self.has_way(dest) {
             return Outcome::NoSuchServer;
         }
-        match self.links[dest.place()].cut(now) {
+        match self.ways[dest.place()].cut(now) {
             Some(Cut { number, pdus, edus }) => Outcome::Cut { number, pdus, edus },
             None => Outcome::NoCut,
         }
@@ -54,7 +54,7 @@ impl Server {
         if !self.has_way(dest) {
             return Outcome::NoSuchServer;
         }
-        match self.links[dest.place()].failed(now) {
+        match self.ways[dest.place()].failed(now) {
             Some(at_ms) => Outcome::Due { at_ms },
             None => Outcome::NotFailed,
         }
@@ -74,6 +74,6 @@ impl Server {
         if !self.has_way(dest) {
             return Outcome::NoSuchServer;
         }
-        Outcome::Settled(self.links[dest.place()].settle(number, status, now))
+        Outcome::Settled(self.ways[dest.place()].settle(number, status, now))
     }
 }

@@ -39,10 +39,10 @@ fn step<R: RoomEngine>(
         "receive" => receive(operation, room, keys),
         "apply" => applied(operation, room, keys),
         "advance" => advance(operation.alloc, room),
-        "advance_all" => {
-            let stored = advance_all(operation.alloc, room)?;
-            count(operation.alloc, stored as u64)
-        }
+        "advance_all" => match advance_all(operation.alloc, room) {
+            Ok(stored) => count(operation.alloc, stored as u64),
+            Err(_) => Err(Stop::Memory),
+        },
         "send" => send(operation, room, keys),
         "prepare" => prepare(operation, room, keys),
         _ => look(name, operation, room),
@@ -85,8 +85,8 @@ fn applied<R: RoomEngine>(operation: Arguments<'_>, room: &mut R, keys: &KeyRing
             .with(Ok(Json::from(receipt_words(alloc, receipt)?)))
             .with(count(alloc, more as u64))
             .into_answer(),
-        Err((back, _)) => {
-            drop(back);
+        Err(stopped) => {
+            drop(stopped);
             Err(Stop::Memory)
         }
     }

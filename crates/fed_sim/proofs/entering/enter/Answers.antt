@@ -4,10 +4,14 @@ use Rattle.fed_journal.specs.declared.entry.Entry.{Entry}
 use Rattle.fed_journal.specs.declared.parcel.Parcel.{Parcel}
 use Rattle.fed_journal.specs.Journal.{JournalState}
 use Rattle.fed_sim.specs.declared.entering.Entered.{Entered}
-use Rattle.fed_sim.specs.declared.offered.Offered.{Offered}
-use Rattle.fed_sim.specs.Link.{lanes_of}
-use Rattle.fed_sim.specs.Entering.{entry_of, load_of, number_of, has_place, open_among, lanes_from}
-use Rattle.fed_sim.specs.Sending.{fits, parcel_to, pushed_from}
+use Rattle.fed_journal.specs.declared.offered.Offered.{Offered}
+use Rattle.fed_sim.specs.Way.{ways_of}
+use Rattle.fed_journal.specs.Offered.{entry_of, load_of, number_of}
+use Rattle.fed_journal.specs.Offering.{has_place, open_among}
+use Rattle.fed_journal.specs.Queues.{parcel_to}
+use Rattle.fed_sim.specs.Ways.{ways_beyond}
+use Rattle.fed_sim.specs.Sending.{fits, pushed_from}
+use Rattle.fed_sim.proofs.Offers.{ways_one}
 use Rattle.fed_sim.proofs.Lanes.{all_sent, count_sent}
 use Rattle.fed_sim.proofs.entering.enter.Goals as goal
 
@@ -30,12 +34,12 @@ returns-then-not-branch-clause-entries c =
     ∙ ap (λ (b : Bool). if b then entries ++ entry_of c.args.offered c.args.dests ∷ [] else entries)
     (sym (fits_told c.args.offered c.args.dests entries _ _ _ false (omega (arith, c.len.ensures, c.in_ok-parcels.parcels.ok.0)) c.in_ok-parcels.ensures.parcels c.in_ok-reserve.ensures.told c.if-not-branch.true))
 
-pub returns-then-not-branch-clause-lanes : goal.returns-then-not-branch-clause-lanes
-returns-then-not-branch-clause-lanes c =
+pub returns-then-not-branch-clause-ways : goal.returns-then-not-branch-clause-ways
+returns-then-not-branch-clause-ways c =
     let entries = c.args.journal.now.entries in
-    let lanes = lanes_of c.args.links.now in
-    c.in_ok-reserve.ensures.lanes
-    ∙ ap (λ (b : Bool). if b then lanes_from 0 entries (entry_of c.args.offered c.args.dests) lanes else lanes)
+    let lanes = ways_of c.args.ways.now in
+    c.in_ok-reserve.ensures.ways
+    ∙ ap (λ (b : Bool). if b then ways_beyond 0 entries (entries ++ entry_of c.args.offered c.args.dests ∷ []) lanes else lanes)
     (sym (fits_told c.args.offered c.args.dests entries _ _ _ false (omega (arith, c.len.ensures, c.in_ok-parcels.parcels.ok.0)) c.in_ok-parcels.ensures.parcels c.in_ok-reserve.ensures.told c.if-not-branch.true))
 
 pub returns-clause-told : goal.returns-clause-told
@@ -56,12 +60,12 @@ returns-clause-entries c =
     ∙ ap (λ (b : Bool). if b then entries ++ entry_of c.args.offered c.args.dests ∷ [] else entries)
     (sym (fits_told c.args.offered c.args.dests entries _ _ _ true (omega (arith, c.len.ensures, c.in_ok-parcels.parcels.ok.0)) c.in_ok-parcels.ensures.parcels c.in_ok-reserve.ensures.told c.if-not-branch.false))
 
-pub returns-clause-lanes : goal.returns-clause-lanes
-returns-clause-lanes c =
+pub returns-clause-ways : goal.returns-clause-ways
+returns-clause-ways c =
     let entries = c.args.journal.now.entries in
-    let lanes = lanes_of c.args.links.now in
-    c.push_all.ensures.lanes
-    ∙ (λ i. pushed_from 0 (c.in_ok-parcels.ensures.parcels i) (c.in_ok-reserve.ensures.lanes i))
-    ∙ all_sent c.args.offered c.args.dests entries c.in_ok-parcels.ensures.rising 0 lanes
-    ∙ ap (λ (b : Bool). if b then lanes_from 0 entries (entry_of c.args.offered c.args.dests) lanes else lanes)
+    let lanes = ways_of c.args.ways.now in
+    c.push_all.ensures.ways
+    ∙ (λ i. pushed_from 0 (c.in_ok-parcels.ensures.parcels i) (c.in_ok-reserve.ensures.ways i))
+    ∙ all_sent c.args.offered c.args.dests entries c.in_ok-parcels.ensures.rising 0 lanes ∙ sym (ways_one 0 entries (entry_of c.args.offered c.args.dests) lanes)
+    ∙ ap (λ (b : Bool). if b then ways_beyond 0 entries (entries ++ entry_of c.args.offered c.args.dests ∷ []) lanes else lanes)
     (sym (fits_told c.args.offered c.args.dests entries _ _ _ true (omega (arith, c.len.ensures, c.in_ok-parcels.parcels.ok.0)) c.in_ok-parcels.ensures.parcels c.in_ok-reserve.ensures.told c.if-not-branch.false))

@@ -4,7 +4,7 @@ use Rattle.std.specs.List.Sorted.{IsStrictlyIncreasing}
 use Rattle.std.proofs.lemmas.Fn.{filter_same}
 use Rattle.std.proofs.lemmas.List.Kept.{IsStrictlyIncreasing-filter}
 use Rattle.fed_journal.specs.Journal.{is_closed}
-use Rattle.fed_sim.specs.Entering.{open_among}
+use Rattle.fed_journal.specs.Offering.{open_among}
 use Rattle.fed_sim.proofs.entering.open_among.Goals as goal
 
 pub of-requires : goal.of-requires

@@ -1,7 +1,7 @@
 use Rattle.std.proofs.Common.{◌≡◌, take}
 use Rattle.std.specs.List.{filter_map}
-use Rattle.fed_sim.specs.Entering.{load_of}
-use Rattle.fed_sim.specs.Sending.{parcel_to}
+use Rattle.fed_journal.specs.Offered.{load_of}
+use Rattle.fed_journal.specs.Queues.{parcel_to}
 use Rattle.fed_sim.proofs.entering.parcels_to.Given as goal
 
 -- those for the servers that were passed

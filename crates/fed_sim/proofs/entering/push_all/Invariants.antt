@@ -1,5 +1,5 @@
 use Rattle.std.proofs.Common.{◌≡◌, length}
-use Rattle.fed_sim.specs.Link.{lanes_of}
+use Rattle.fed_sim.specs.Way.{ways_of}
 use Rattle.fed_sim.specs.Sending.{HasRoom, pushed_from}
 use Rattle.fed_sim.proofs.entering.push_all.Given as goal
 
@@ -7,4 +7,4 @@ use Rattle.fed_sim.proofs.entering.push_all.Given as goal
 abbrev pub invariant-loop-parcel : goal.invariant-loop-parcel
 invariant-loop-parcel l =
     let left = l.parcel-iterator.rest.items in
-    HasRoom (length left) l.links × (length l.links ≡ length l.fn.links) × (pushed_from 0 left (lanes_of l.links) ≡ pushed_from 0 l.fn.parcels.items (lanes_of l.fn.links))
+    HasRoom (length left) l.ways × (length l.ways ≡ length l.fn.ways) × (pushed_from 0 left (ways_of l.ways) ≡ pushed_from 0 l.fn.parcels.items (ways_of l.fn.ways))

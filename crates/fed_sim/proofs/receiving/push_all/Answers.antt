@@ -6,7 +6,7 @@ use Rattle.fed_event.specs.Fields.{room_id_of}
 use Rattle.fed_dest.specs.List.{place_of}
 use Rattle.fed_room.specs.Room.{RoomValue, room_of}
 use Rattle.fed_sim.specs.Hosted.{HostedState, arrivals_of}
-use Rattle.fed_sim.specs.Taking.{arrivals_from}
+use Rattle.fed_inbox.specs.Queues.{queues_from}
 use Rattle.fed_sim.proofs.Lanes.{same_seen, none_left, set_all}
 use Rattle.fed_sim.proofs.Servers.{place_named}
 use Rattle.fed_sim.proofs.Arrivals.{nothing_arrives, arrives_here, arrives_nowhere, found_within}
@@ -32,7 +32,7 @@ loop-event-preserved-then-place-rooms c =
       length-set rooms place c.push.new.self ∙ c.loop-event.invariant.1,
       same_seen (λ (h : HostedState). room_of h.room) rooms place c.push.new.self c.index-rooms-place.result (ap (λ (r : RoomValue). room_of r) c.push.ensures.room) ∙ c.loop-event.invariant.2,
       arrives_here known event later rooms place _ c.push.new.self is here c.push.ensures.queue
-          ∙ ap (λ es. arrivals_from 0 known es (arrivals_of rooms)) (sym taken) ∙ c.loop-event.invariant.3,
+          ∙ ap (λ es. queues_from 0 known es (arrivals_of rooms)) (sym taken) ∙ c.loop-event.invariant.3,
     )
 
 pub loop-event-preserved : goal.loop-event-preserved
@@ -51,7 +51,7 @@ loop-event-preserved c =
       λ d h there. let before = c.loop-event.invariant.0 d h there in omega arith,
       c.loop-event.invariant.1,
       c.loop-event.invariant.2,
-      arrives_nowhere known event later (arrivals_of rooms) (length rooms) c.unwrap_or-place.result place (sym all) c.if-place-rooms.false ∙ ap (λ es. arrivals_from 0 known es (arrivals_of rooms)) (sym taken) ∙ c.loop-event.invariant.3,
+      arrives_nowhere known event later (arrivals_of rooms) (length rooms) c.unwrap_or-place.result place (sym all) c.if-place-rooms.false ∙ ap (λ es. queues_from 0 known es (arrivals_of rooms)) (sym taken) ∙ c.loop-event.invariant.3,
     )
 
 pub returns-clause-arrivals : goal.returns-clause-arrivals
@@ -59,4 +59,4 @@ returns-clause-arrivals c =
     let rooms = c.loop-event.rooms in
     let known = map string_bytes c.args.known.now in
     let none : c.loop-event.event-iterator.rest.items ≡ [] = none_left c.loop-event.event-iterator.rest.items (omega (arith, c.in-None.ensures.steps.0, c.loop-event.event-iterator.rest.ok.0)) in
-    sym (nothing_arrives known 0 (arrivals_of rooms)) ∙ ap (λ es. arrivals_from 0 known es (arrivals_of rooms)) (sym none) ∙ c.loop-event.invariant.3
+    sym (nothing_arrives known 0 (arrivals_of rooms)) ∙ ap (λ es. queues_from 0 known es (arrivals_of rooms)) (sym none) ∙ c.loop-event.invariant.3

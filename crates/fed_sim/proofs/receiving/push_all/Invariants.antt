@@ -1,6 +1,7 @@
 use Rattle.std.proofs.Common.{◌≡◌, length, map, string_bytes}
 use Rattle.fed_sim.specs.Hosted.{rooms_of, arrivals_of}
-use Rattle.fed_sim.specs.Taking.{HasRoom, arrivals_from}
+use Rattle.fed_inbox.specs.Queues.{queues_from}
+use Rattle.fed_sim.specs.Taking.{HasRoom}
 use Rattle.fed_sim.proofs.receiving.push_all.Given as goal
 
 -- there is room for the events that are left, and with them the rooms hold what they are to hold
@@ -9,4 +10,4 @@ invariant-loop-event l =
     let left = l.event-iterator.rest.items in
     let known = map string_bytes l.known in
     HasRoom (length left) l.rooms × (length l.rooms ≡ length l.fn.rooms) × (rooms_of l.rooms ≡ rooms_of l.fn.rooms)
-    × (arrivals_from 0 known left (arrivals_of l.rooms) ≡ arrivals_from 0 known l.fn.events.items (arrivals_of l.fn.rooms))
+    × (queues_from 0 known left (arrivals_of l.rooms) ≡ queues_from 0 known l.fn.events.items (arrivals_of l.fn.rooms))

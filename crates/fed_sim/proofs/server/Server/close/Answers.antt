@@ -9,63 +9,64 @@ use Rattle.fed_journal.specs.declared.parcel.Load.TheVariants.{End}
 use Rattle.fed_journal.specs.declared.parcel.Parcel.{Parcel}
 use Rattle.fed_journal.specs.Journal.{JournalState, is_closed, with_entry}
 use Rattle.fed_journal.specs.Place.{PlaceValue}
-use Rattle.fed_outbox.specs.Collecting.{Lane}
+use Rattle.fed_outbox.specs.Collecting.{Way}
 use Rattle.fed_sim.specs.declared.outcome.Outcome.TheVariants.{NotClosed, Closed}
-use Rattle.fed_sim.specs.Link.{LinkState, lanes_of, with_parcel}
-use Rattle.fed_sim.specs.Entering.{lanes_from}
+use Rattle.fed_sim.specs.Way.{WayState, ways_of, with_parcel}
+use Rattle.fed_sim.specs.Ways.{ways_beyond}
 use Rattle.fed_sim.specs.Sending.{pushed_from}
-use Rattle.fed_sim.specs.Offering.{IsClosedFor, own_server, not_listed, was_closed, close_limit, closed}
+use Rattle.fed_sim.specs.Offering.{IsClosedFor}
+use Rattle.fed_sim.proofs.Offers.{ways_one, own_server, not_listed, closed_before, close_limit, closing_enters}
 use Rattle.fed_sim.specs.ServerParts.{server_of}
 use Rattle.fed_sim.proofs.Lanes.{same_seen, pushed_here, pushed_nothing, end_sent}
 use Rattle.fed_sim.proofs.Servers.{same_at, listed, closed_where, open_where, has_none, has_one, on_error}
 use Rattle.fed_sim.proofs.server.Server.close.Goals as goal
 
 pub returns-then-eq-clause-closed : goal.returns-then-eq-clause-closed
-returns-then-eq-clause-closed c = own_server (eqb-true _ _ (sym c.if-eq.ensures))
+returns-then-eq-clause-closed c = own_server c.args.dest (server_of c.args.self.now) (eqb-true _ _ (sym c.if-eq.ensures))
 
 pub returns-then-len-place-clause-closed : goal.returns-then-len-place-clause-closed
 returns-then-len-place-clause-closed c =
-    let links = c.args.self.now.links.items in
-    let size = c.args.self.now.links.ok.0 in
-    let all = length-map links (λ (l : LinkState). l.lane) in
-    not_listed (slice_get_past (lanes_of links) c.args.dest (omega (arith, size, all, c.len.ensures, c.place.ensures.place, c.if-len-place.true)))
+    let ways = c.args.self.now.ways.items in
+    let size = c.args.self.now.ways.ok.0 in
+    let all = length-map ways (λ (l : WayState). l.way) in
+    not_listed c.args.dest (server_of c.args.self.now) (slice_get_past (ways_of ways) c.args.dest (omega (arith, size, all, c.len.ensures, c.place.ensures.place, c.if-len-place.true)))
 
 pub returns-in_default-clause-closed : goal.returns-in_default-clause-closed
 returns-in_default-clause-closed c =
-    let links = c.args.self.now.links.items in
-    let size = c.args.self.now.links.ok.0 in
-    let link = listed links c.args.dest (omega (arith, size, c.len.ensures, c.place.ensures.place, c.if-len-place.false)) in
-    was_closed link.0.lane (eqb-false _ _ (sym c.if-eq.ensures)) (slice_get-map (λ (l : LinkState). l.lane) links c.args.dest ∙ ap (option_map (λ (l : LinkState). l.lane)) link.1)
+    let ways = c.args.self.now.ways.items in
+    let size = c.args.self.now.ways.ok.0 in
+    let way = listed ways c.args.dest (omega (arith, size, c.len.ensures, c.place.ensures.place, c.if-len-place.false)) in
+    closed_before c.args.dest (server_of c.args.self.now) way.0.way (eqb-false _ _ (sym c.if-eq.ensures)) (slice_get-map (λ (l : WayState). l.way) ways c.args.dest ∙ ap (option_map (λ (l : WayState). l.way)) way.1)
     (closed_where c.args.self.now.journal.entries c.args.dest (sym c.place-2.ensures ∙ c.in_default.is))
 
 pub returns-in-Err-Limit-clause-closed : goal.returns-in-Err-Limit-clause-closed
 returns-in-Err-Limit-clause-closed c =
-    let links = c.args.self.now.links.items in
-    let size = c.args.self.now.links.ok.0 in
-    let link = listed links c.args.dest (omega (arith, size, c.len.ensures, c.place.ensures.place, c.if-len-place.false)) in
-    let here = slice_get-map (λ (l : LinkState). l.lane) links c.args.dest ∙ ap (option_map (λ (l : LinkState). l.lane)) link.1 in
+    let ways = c.args.self.now.ways.items in
+    let size = c.args.self.now.ways.ok.0 in
+    let way = listed ways c.args.dest (omega (arith, size, c.len.ensures, c.place.ensures.place, c.if-len-place.false)) in
+    let here = slice_get-map (λ (l : WayState). l.way) ways c.args.dest ∙ ap (option_map (λ (l : WayState). l.way)) way.1 in
     let is_open = open_where c.args.self.now.journal.entries c.args.dest c.in-Some.place (sym c.place-2.ensures ∙ c.in-Some.is) in
     subst (IsClosedFor c.args.dest (server_of c.args.self.now) NotClosed)
     (same_at (server_of c.args.self.now) _ _ _ _ (ap (λ (j : JournalState). j.entries) (sym c.in-Err-Limit.ensures.err)) refl)
-    (close_limit link.0.lane (eqb-false _ _ (sym c.if-eq.ensures)) here is_open.0 (has_none c.args.self.now.journal.entries 0 (c.in-Err-Limit.ensures.limit_only (ap Err c.in-Err-Limit.field-0-is))))
+    (close_limit c.args.dest (server_of c.args.self.now) way.0.way (eqb-false _ _ (sym c.if-eq.ensures)) here is_open.0 (has_none c.args.self.now.journal.entries 0 (c.in-Err-Limit.ensures.limit_only (ap Err c.in-Err-Limit.field-0-is))))
 
--- the link that is closed is the one for the destination
+-- the way that is closed is the one for the destination
 pub returns-in_err-make_room-clause-err : goal.returns-in_err-make_room-clause-err
 returns-in_err-make_room-clause-err c =
     on_error c.from_residual.result (same_at (server_of c.args.self.now) _ _ _ _ (ap (λ (j : JournalState). j.entries) c.in-Ok.ensures.ok)
-    (same_seen (λ (l : LinkState). l.lane) c.args.self.now.links.items c.place-3.result c.make_room.new.self c.index_mut-link.result.now
-    (c.in_err-make_room.ensures.lane ∙ ap (λ (l : LinkState). l.lane) c.index_mut-link.ensures.value)))
+    (same_seen (λ (l : WayState). l.way) c.args.self.now.ways.items c.place-3.result c.make_room.new.self c.index_mut-way.result.now
+    (c.in_err-make_room.ensures.way ∙ ap (λ (l : WayState). l.way) c.index_mut-way.ensures.value)))
 
 pub returns-clause-closed : goal.returns-clause-closed
 returns-clause-closed c =
-    let links = c.args.self.now.links.items in
+    let ways = c.args.self.now.ways.items in
     let entries = c.args.self.now.journal.entries in
     let d = c.args.dest in
-    let size = c.args.self.now.links.ok.0 in
+    let size = c.args.self.now.ways.ok.0 in
     let at : c.place-3.result ≡ d = c.place-3.ensures.place in
-    let within : c.place-3.result < length links = omega (arith, size, c.len.ensures, c.place.ensures.place, c.if-len-place.false, at) in
-    let link = listed links d (omega (arith, within, at)) in
-    let here = slice_get-map (λ (l : LinkState). l.lane) links d ∙ ap (option_map (λ (l : LinkState). l.lane)) link.1 in
+    let within : c.place-3.result < length ways = omega (arith, size, c.len.ensures, c.place.ensures.place, c.if-len-place.false, at) in
+    let way = listed ways d (omega (arith, within, at)) in
+    let here = slice_get-map (λ (l : WayState). l.way) ways d ∙ ap (option_map (λ (l : WayState). l.way)) way.1 in
     let is_open = open_where entries d c.in-Some.place (sym c.place-2.ensures ∙ c.in-Some.is) in
     let parcel : Parcel = record { place = c.in-Some.place; load = End } in
     let as_before : c.reserve.new.self.entries ≡ entries = ap (λ (j : JournalState). j.entries) c.in-Ok.ensures.ok in
@@ -73,13 +74,13 @@ returns-clause-closed c =
     let journal : c.close.new.self.entries ≡ entries ++ entry.Close d Asked ∷ [] =
     ap (λ (j : JournalState). j.entries) (c.close.ensures.entry ∙ ap (λ (b : Bool). if b then c.reserve.new.self else with_entry c.reserve.new.self (entry.Close d Asked)) was_open)
     ∙ ap (λ es. es ++ entry.Close d Asked ∷ []) as_before in
-    let lane : c.push.new.self.lane ≡ with_parcel c.index_mut-link.result.now.lane parcel = c.push.ensures.lane ∙ ap (λ (l : Lane). with_parcel l parcel) c.in_ok-make_room.ensures.lane in
-    let lanes : lanes_of (set links c.place-3.result c.push.new.self) ≡ lanes_from 0 entries (entry.Close d Asked) (lanes_of links) =
-    sym (pushed_nothing 0 (lanes_of (set links c.place-3.result c.push.new.self)))
-    ∙ pushed_here parcel [] links c.place-3.result c.index_mut-link.result.now c.push.new.self (ap (λ (p : PlaceValue). p.dest) is_open.1 ∙ sym at)
-    (slice_get-get_or links c.place-3.result c.index_mut-link.result.now within ∙ ap Some (sym c.index_mut-link.ensures.value)) lane
-    ∙ ap (λ (p : PlaceValue). pushed_from 0 (record { place = p; load = End } ∷ []) (lanes_of links)) is_open.1
-    ∙ end_sent d entries is_open.0 0 (lanes_of links) in
+    let lane : c.push.new.self.way ≡ with_parcel c.index_mut-way.result.now.way parcel = c.push.ensures.way ∙ ap (λ (l : Way). with_parcel l parcel) c.in_ok-make_room.ensures.way in
+    let lanes : ways_of (set ways c.place-3.result c.push.new.self) ≡ ways_beyond 0 entries (entries ++ entry.Close d Asked ∷ []) (ways_of ways) =
+    sym (pushed_nothing 0 (ways_of (set ways c.place-3.result c.push.new.self)))
+    ∙ pushed_here parcel [] ways c.place-3.result c.index_mut-way.result.now c.push.new.self (ap (λ (p : PlaceValue). p.dest) is_open.1 ∙ sym at)
+    (slice_get-get_or ways c.place-3.result c.index_mut-way.result.now within ∙ ap Some (sym c.index_mut-way.ensures.value)) lane
+    ∙ ap (λ (p : PlaceValue). pushed_from 0 (record { place = p; load = End } ∷ []) (ways_of ways)) is_open.1
+    ∙ end_sent d entries is_open.0 0 (ways_of ways) ∙ sym (ways_one 0 entries (entry.Close d Asked) (ways_of ways)) in
     subst (IsClosedFor d (server_of c.args.self.now) Closed)
     (same_at (server_of c.args.self.now) _ _ _ _ (sym journal) (sym lanes))
-    (closed link.0.lane (eqb-false _ _ (sym c.if-eq.ensures)) here is_open.0 (has_one entries 0 c.in-Ok.field-0 _ c.in-Ok.ensures.limit))
+    (closing_enters d (server_of c.args.self.now) way.0.way (eqb-false _ _ (sym c.if-eq.ensures)) here is_open.0 (has_one entries 0 c.in-Ok.field-0 _ c.in-Ok.ensures.limit))

@@ -6,7 +6,7 @@ use Rattle.fed_keys.specs.StandIn.{stand_in_checks}
 use Rattle.fed_inbox.specs.Inbox.{InboxState}
 use Rattle.fed_inbox.specs.WholeRequest.{IsAnsweredWhole}
 use Rattle.fed_sim.specs.Hosted.{rooms_of, arrivals_of}
-use Rattle.fed_sim.specs.Taking.{arrivals_from}
+use Rattle.fed_inbox.specs.Queues.{queues_from}
 use Rattle.fed_sim.specs.ServerParts.{server_of}
 use Rattle.fed_sim.proofs.Fresh.{few_fresh}
 use Rattle.fed_sim.proofs.server.Server.receive.Goals as goal
@@ -37,10 +37,13 @@ returns-clause-received c =
     let rooms : rooms_of (with_items made c.push_all.new.rooms).items ≡ old.rooms =
     ap rooms_of second ∙ c.push_all.ensures.rooms ∙ ap rooms_of between ∙ c.in_ok-make_room.ensures.rooms ∙ ap rooms_of c.deref_mut.ensures.value in
     let queues : arrivals_of c.deref_mut-2.result.now ≡ old.arrivals = ap arrivals_of between ∙ c.in_ok-make_room.ensures.arrivals ∙ ap arrivals_of c.deref_mut.ensures.value in
-    let arrivals : arrivals_of (with_items made c.push_all.new.rooms).items ≡ arrivals_from 0 known fresh old.arrivals =
-    ap arrivals_of second ∙ c.push_all.ensures.arrivals ∙ (λ i. arrivals_from 0 known (c.fresh-events.ensures.handed i) (queues i)) in
+    let arrivals : arrivals_of (with_items made c.push_all.new.rooms).items ≡ queues_from 0 known fresh old.arrivals =
+    ap arrivals_of second ∙ c.push_all.ensures.arrivals ∙ (λ i. queues_from 0 known (c.fresh-events.ensures.handed i) (queues i)) in
     record {
-      fresh = fresh;
-      answered = subst (λ (s : InboxState). IsAnsweredWhole stand_in_checks old.inbox c.args.request.now c.answer-reply.result s fresh) (sym c.fresh-events.ensures.stays) c.answer-reply.ensures.answered;
-      others = λ i. record { own = old.own; name = old.name; rooms = rooms i; arrivals = arrivals i; journal = old.journal; lanes = old.lanes; inbox = c.fresh-events.new.self.state };
+      taken = record {
+        fresh = fresh;
+        answered = subst (λ (s : InboxState). IsAnsweredWhole stand_in_checks old.inbox c.args.request.now c.answer-reply.result s fresh) (sym c.fresh-events.ensures.stays) c.answer-reply.ensures.answered;
+        queued = arrivals;
+      };
+      others = λ i. record { own = old.own; name = old.name; rooms = rooms i; arrivals = arrivals_of (with_items made c.push_all.new.rooms).items; journal = old.journal; ways = old.ways; inbox = c.fresh-events.new.self.state };
     }

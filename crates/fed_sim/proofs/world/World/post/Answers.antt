@@ -31,7 +31,7 @@ returns-then-not-has_way-clause-posted c =
 
 pub returns-in_default-clause-posted : goal.returns-in_default-clause-posted
 returns-in_default-clause-posted c =
-    nothing (server_of c.index-sender.result.now) c.index.result.now.lane
+    nothing (server_of c.index-sender.result.now) c.index.result.now.way
     (is_on (world_of c.args.self.now) c.args.self.now.servers.items c.args.server c.place.result c.place.ensures.place c.index-sender.result.now c.index-sender.ensures (sym c.if-not-has_server.ensures)
     c.args.dest c.place-2.result c.place-2.ensures.place c.index.result.now c.index.ensures (sym c.if-not-has_way.ensures))
     (ap (λ (o : OutboxState). o.unanswered) (sym c.outbox-outbox.ensures) ∙ sym c.unanswered.ensures.value ∙ ap (option_map seen) c.in_default.is)
@@ -40,7 +40,7 @@ pub returns-then-not-due-clause-posted : goal.returns-then-not-due-clause-posted
 returns-then-not-due-clause-posted c =
     same_told (IsPosted c.args.server c.args.dest (world_of c.args.self.now)) _ _ _ _
     (ap NotDue (ap (λ (o : OutboxState). o.due_at) (sym c.outbox-outbox.ensures) ∙ sym c.due_at-at_ms.ensures.due_at)) refl
-    (not_due (server_of c.index-sender.result.now) c.index.result.now.lane (seen c.in-Some.transaction)
+    (not_due (server_of c.index-sender.result.now) c.index.result.now.way (seen c.in-Some.transaction)
     (is_on (world_of c.args.self.now) c.args.self.now.servers.items c.args.server c.place.result c.place.ensures.place c.index-sender.result.now c.index-sender.ensures (sym c.if-not-has_server.ensures)
     c.args.dest c.place-2.result c.place-2.ensures.place c.index.result.now c.index.ensures (sym c.if-not-has_way.ensures))
     (ap (λ (o : OutboxState). o.unanswered) (sym c.outbox-outbox.ensures) ∙ sym c.unanswered.ensures.value ∙ ap (option_map seen) c.in-Some.is)
@@ -62,7 +62,7 @@ returns-clause-posted c =
     (one_more w c.args.self.now.packets.items c.push.new.self.items (packet.Request c.args.server c.args.dest c.in-Some.transaction.number c.in_ok-bytes.bytes)
     (request_for w c.args.server s c.args.dest c.name-name.result.now t) c.in_ok-push.ensures.items
     (ap (request c.args.server c.args.dest c.in-Some.transaction.number) c.in_ok-bytes.ensures.exact))
-    (posted s c.index.result.now.lane t c.name-name.result.now
+    (posted s c.index.result.now.way t c.name-name.result.now
     (is_on w c.args.self.now.servers.items c.args.server c.place.result c.place.ensures.place c.index-sender.result.now c.index-sender.ensures (sym c.if-not-has_server.ensures)
     c.args.dest c.place-2.result c.place-2.ensures.place c.index.result.now c.index.ensures (sym c.if-not-has_way.ensures))
     (ap (λ (o : OutboxState). o.unanswered) (sym c.outbox-outbox.ensures) ∙ sym c.unanswered.ensures.value ∙ ap (option_map seen) c.in-Some.is)

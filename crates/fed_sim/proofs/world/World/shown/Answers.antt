@@ -2,7 +2,7 @@ use Rattle.std.proofs.Common.{arith, ◌≡◌, ◌∙◌, ap, sym, subst, lengt
 use Rattle.std.specs.List.{slice_get}
 use Rattle.std.specs.Option.{option_map}
 use Rattle.std.proofs.lemmas.Option.{slice_get_past}
-use Rattle.fed_outbox.specs.Collecting.{Lane}
+use Rattle.fed_outbox.specs.Collecting.{Way}
 use Rattle.fed_outbox.specs.Outbox.{OutboxState}
 use Rattle.fed_inbox.specs.Inbox.{InboxState, taken_of, taken_edus_of}
 use Rattle.fed_sim.specs.declared.outcome.Outcome.TheVariants.{Shown}
@@ -16,7 +16,7 @@ use Rattle.fed_sim.proofs.world.World.shown.Goals as goal
 abbrev inbox_of : ServerState → InboxState
 inbox_of s = s.inbox
 
-abbrev outbox_of : Lane → OutboxState
+abbrev outbox_of : Way → OutboxState
 outbox_of lane = lane.outbox
 
 pub returns-in_default : goal.returns-in_default

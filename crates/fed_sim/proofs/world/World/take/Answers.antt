@@ -5,7 +5,7 @@ use Rattle.std.proofs.lemmas.Option.{slice_get_past}
 use Rattle.fed_sim.specs.declared.outcome.Outcome.TheVariants.{Answered}
 use Rattle.fed_sim.specs.declared.packet.Packet.{Packet}
 use Rattle.fed_sim.specs.declared.packet.Packet.TheVariants as packet
-use Rattle.fed_sim.specs.Messages.{IsRequestIn, HasNoRequest}
+use Rattle.fed_exchange.specs.Messages.{IsRequestIn, HasNoRequest}
 use Rattle.fed_sim.specs.Packets.{IsTaken, with_packet, no_request, no_text, no_receiver, taken}
 use Rattle.fed_sim.specs.ServerParts.{server_of}
 use Rattle.fed_sim.specs.Taking.{IsReceived}

@@ -3,7 +3,8 @@ ghost use Rattle.std.specs.Prelude.{◌≡◌, ◌≤◌, ◌<◌, ◌+◌, None
 ghost use Rattle.fed_outbox.specs.declared.fault.OutboxFault.TheVariants.{Memory};
 ghost use Rattle.fed_outbox.specs.Outbox.{cut};
 ghost use Rattle.fed_outbox.specs.Collecting.{collected};
-ghost use Rattle.fed_sim.specs.Link.{new_lane, with_parcel, kind_of, kind_told, cut_told, failed_once, due_told, answered, answer_told};
+ghost use Rattle.fed_outbox.specs.Answering.{failed_once, due_told, answered, answer_told};
+ghost use Rattle.fed_sim.specs.Way.{new_way, with_parcel, kind_of, kind_told, cut_told};
 
 use crate::outcome::Collected;
 use fed_dest::ServerIndex;
@@ -18,21 +19,21 @@ use std::marker::Model;
 ///
 /// Contracts see it as these, and for how many more parcels there is room.
 #[derive(Drop)]
-pub(crate) struct Link {
+pub(crate) struct Way {
     queue: VecDeque<Parcel>,
     outbox: Outbox,
 }
 
-impl Model for Link {
-    ghost use Rattle.fed_sim.specs.Link.{LinkState, link_code};
+impl Model for Way {
+    ghost use Rattle.fed_sim.specs.Way.{WayState, way_state_code};
 
-    ghost Value = { LinkState };
+    ghost Value = { WayState };
 
-    ghost coded = { link_code };
+    ghost coded = { way_state_code };
 
-    ghost use Rattle.fed_sim.specs.LinkParts.{link_of};
+    ghost use Rattle.fed_sim.specs.WayParts.{way_of};
 
-    ghost view = { link_of };
+    ghost view = { way_of };
 }
 
 /// A transaction that was made: its number, and how many events and ephemeral data units it has.
@@ -43,12 +44,12 @@ pub(crate) struct Cut {
     pub(crate) edus: usize,
 }
 
-impl Link {
+impl Way {
     /// The way to a destination for which nothing was placed.
-    pub(crate) fn new(alloc: Global, dest: ServerIndex) -> Link
-        ensures { result.lane ≡ new_lane dest }
+    pub(crate) fn new(alloc: Global, dest: ServerIndex) -> Way
+        ensures { result.way ≡ new_way dest }
     {
-        Link {
+        Way {
             queue: VecDeque::new(alloc),
             outbox: Outbox::new(alloc, dest),
         }
@@ -56,7 +57,7 @@ impl Link {
 
     /// Makes room for so many more parcels.
     pub(crate) fn make_room(&mut self, more: usize) -> Result<(), NoMemory>
-        ensures lane { self.new.lane ≡ self.old.lane }
+        ensures way { self.new.way ≡ self.old.way }
         ensures room { OnOk result (more ≤ self.new.free) }
         ensures free { self.old.free ≤ self.new.free }
     {
@@ -66,7 +67,7 @@ impl Link {
     /// A parcel waits behind those that do.
     pub(crate) fn push(&mut self, parcel: Parcel)
         requires { 0 < self.old.free }
-        ensures lane { self.new.lane ≡ with_parcel self.old.lane parcel }
+        ensures way { self.new.way ≡ with_parcel self.old.way parcel }
         ensures free { self.new.free + 1 ≡ self.old.free }
     {
         // There is room for it.
@@ -75,23 +76,23 @@ impl Link {
 
     /// How many parcels wait.
     pub(crate) fn queued(&self) -> usize
-        ensures { result ≡ length self.now.lane.queue }
+        ensures { result ≡ length self.now.way.queue }
     {
         self.queue.len()
     }
 
     /// The outbox.
     pub(crate) fn outbox(&self) -> &Outbox
-        ensures { result.now ≡ self.now.lane.outbox }
+        ensures { result.now ≡ self.now.way.outbox }
     {
         &self.outbox
     }
 
     /// The first parcel goes into the outbox: what it held, where one waits. An error leaves all as it was.
     pub(crate) fn collect(&mut self) -> Result<Option<Collected>, NoMemory>
-        ensures ok { OnOk result (self.new.lane ≡ collected self.old.lane) }
-        ensures told { IfOk result (λ told. told ≡ kind_told self.old.lane) }
-        ensures err { OnErr result (self.new.lane ≡ self.old.lane) }
+        ensures ok { OnOk result (self.new.way ≡ collected self.old.way) }
+        ensures told { IfOk result (λ told. told ≡ kind_told self.old.way) }
+        ensures err { OnErr result (self.new.way ≡ self.old.way) }
     {
         let Some(parcel) = self.queue.pop_front() else {
             return Ok(None);
@@ -110,9 +111,9 @@ impl Link {
     /// Makes the next transaction, where none is unanswered and something waits.
     pub(crate) fn cut(&mut self, now: u64) -> Option<Cut>
         requires { now ≤ 9007199254740991 }
-        ensures outbox { self.new.lane.outbox ≡ cut self.old.lane.outbox now }
-        ensures queue { self.new.lane.queue ≡ self.old.lane.queue }
-        ensures told { result ≡ cut_told self.old.lane.outbox now }
+        ensures outbox { self.new.way.outbox ≡ cut self.old.way.outbox now }
+        ensures queue { self.new.way.queue ≡ self.old.way.queue }
+        ensures told { result ≡ cut_told self.old.way.outbox now }
     {
         let transaction = self.outbox.cut(now)?;
         Some(Cut {
@@ -125,27 +126,21 @@ impl Link {
     /// The sending of the unanswered transaction has failed: when it is due again.
     pub(crate) fn failed(&mut self, now: u64) -> Option<u64>
         requires { now ≤ 9007199254740991 }
-        ensures outbox { self.new.lane.outbox ≡ failed_once self.old.lane.outbox now }
-        ensures queue { self.new.lane.queue ≡ self.old.lane.queue }
-        ensures told { result ≡ due_told self.old.lane.outbox now }
+        ensures outbox { self.new.way.outbox ≡ failed_once self.old.way.outbox now }
+        ensures queue { self.new.way.queue ≡ self.old.way.queue }
+        ensures told { result ≡ due_told self.old.way.outbox now }
     {
-        let number = self.outbox.unanswered()?.number;
-        self.outbox.failed(number, now);
-        Some(self.outbox.due_at())
+        self.outbox.failed_once(now)
     }
 
     /// A transaction was answered with this status, or with what is no answer.
     pub(crate) fn settle(&mut self, number: u64, status: Option<u16>, now: u64) -> Settlement
         requires { now ≤ 9007199254740991 }
-        ensures outbox { self.new.lane.outbox ≡ answered self.old.lane.outbox number status now }
-        ensures queue { self.new.lane.queue ≡ self.old.lane.queue }
-        ensures told { result ≡ answer_told self.old.lane.outbox number status }
+        ensures outbox { self.new.way.outbox ≡ answered self.old.way.outbox number status now }
+        ensures queue { self.new.way.queue ≡ self.old.way.queue }
+        ensures told { result ≡ answer_told self.old.way.outbox number status }
     {
-        match status {
-            Some(status) => self.outbox.settle(number, status, now),
-            None if self.outbox.failed(number, now) => Settlement::Failed,
-            None => Settlement::Ignored,
-        }
+        self.outbox.answered(number, status, now)
     }
 }
 
