@@ -5,7 +5,7 @@
 //! - `transactions`: bodies of the greatest size, replies that are read, and names and faults as texts
 //! - `inboxes`: a body that is too large, and the reply for want of memory
 //! - `replies`: a store of replies
-//! - `requests`: requests on their whole way: signed, written, read and answered
+//! - `requests`: requests on their whole way: signed, written, read and answered; copies, and replies that go out
 //! - `servers`: copies of lists and sets of servers
 //! - `runs`: runs over readers and writers that give and take little, fail, or never end
 #![tactic(auto)]

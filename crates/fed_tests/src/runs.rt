@@ -1,5 +1,5 @@
 // Runs over readers and writers that give and take little, fail, or never end.
-use fed_app::{InboxSetup, MAX_READS, RunFault, inbox_run};
+use fed_app::{InboxSetup, MAX_READS, RunFault, SimRunFault, inbox_run, sim_run};
 use fed_json::NoMemory;
 use std::alloc::{AllocError, Global};
 use std::cell::Cell;
@@ -238,6 +238,19 @@ fn the_input_is_read_so_often_at_most(rt: HostRuntime) -> Result<(), Fail> {
     assert!(rt; written.is_empty());
     assert_eq!(rt; calls.get(), 40_000_000);
     assert_eq!(rt; MAX_READS, 40_000_000);
+    Ok(())
+}
+
+#[test]
+fn a_script_is_read_so_often_at_most(rt: HostRuntime) -> Result<(), Fail> {
+    let alloc = rt.alloc();
+    let calls = Cell::new(0);
+    let mut written = Vec::new(alloc);
+    let reader = Endless { calls: &calls };
+    let ended = sim_run(alloc, reader, &mut written);
+    assert_eq!(rt; ended, Err(SimRunFault::Io));
+    assert!(rt; written.is_empty());
+    assert_eq!(rt; calls.get(), 40_000_000);
     Ok(())
 }
 
