@@ -2,6 +2,7 @@ pub mod KeyOrder
 pub mod Quoting
 pub mod CanonicalTexts
 pub mod Injective
+pub mod Equal
 pub mod Parts
 pub mod TextMaps
 pub mod Edited

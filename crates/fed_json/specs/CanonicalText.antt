@@ -1,7 +1,7 @@
 -- The canonical text of a value (Matrix, appendix "Canonical JSON"): the shortest UTF-8 text, with the keys of every object in the
 -- order of their code points. `IsCanonicalText` is the definition, by cases on the value; `canonical_text` is that text as a
 -- function, and the law `one_text` of this crate ties the two.
-use Rattle.std.specs.Prelude.{◌≡◌, ℕ, pos, negsuc, ◌+◌, List, [], ◌++◌, Bool, true, false, codes, decimal, if◌then◌else◌}
+use Rattle.std.specs.Prelude.{◌≡◌, ℕ, pos, negsuc, ◌+◌, List, [], ◌++◌, Bool, true, false, bytes_eq, codes, decimal, if◌then◌else◌}
 use Rattle.serde_json.specs.Data.{Num, unsigned, negative, float, Data, null, boolean, number, string, array, object, Items, no_items, item, Members, no_members, member}
 use Rattle.serde_json.specs.Written.{compact_text}
 use Rattle.fed_json.specs.Profile.{comes_before_first}
@@ -43,3 +43,7 @@ abbrev mutual
 -- the text as a function: what `serde_json` writes with no white space
 abbrev pub canonical_text : Data → List ℕ
 canonical_text = compact_text
+
+-- the values have one text; so values of the profile are one value (the law `one_value`)
+abbrev pub have_one_text : Data → Data → Bool
+have_one_text d e = bytes_eq (canonical_text d) (canonical_text e)

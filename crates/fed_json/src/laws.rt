@@ -1,5 +1,5 @@
 // What holds of all values and their canonical texts.
-ghost use Rattle.std.specs.Prelude.{◌≡◌, ◌≢◌, ℕ, List, Some, None, IsSome, is_some, IsUtf8};
+ghost use Rattle.std.specs.Prelude.{◌≡◌, ◌≢◌, ℕ, List, true, Some, None, IsSome, is_some, IsUtf8};
 ghost use Rattle.std.specs.Ordering.{nat_cmp};
 ghost use Rattle.std.specs.Str.{chars};
 ghost use Rattle.std.specs.Cmp.Lexicographic.{slice_cmp};
@@ -7,7 +7,7 @@ ghost use Rattle.serde_json.specs.Data.{Data};
 ghost use Rattle.serde_json.specs.Find.{get, as_object};
 ghost use Rattle.serde_json.specs.Read.{max_depth, read};
 ghost use Rattle.fed_json.specs.Profile.{IsProfile, IsWithin};
-ghost use Rattle.fed_json.specs.CanonicalText.{canonical_text, IsCanonicalText};
+ghost use Rattle.fed_json.specs.CanonicalText.{canonical_text, have_one_text, IsCanonicalText};
 ghost use Rattle.fed_json.specs.Editing.{with_member, without};
 
 /// A value of the profile has one canonical text.
@@ -20,6 +20,11 @@ pub fn one_text()
 pub fn texts_differ()
     ensures { (d e : Data) (s : List ℕ) → IsProfile d → IsProfile e → IsCanonicalText d s
         → IsCanonicalText e s → d ≡ e }
+{}
+
+/// Values of the profile that `==` finds equal are one value.
+pub fn one_value()
+    ensures { (d e : Data) → IsProfile d → IsProfile e → have_one_text d e ≡ true → d ≡ e }
 {}
 
 /// The canonical text of a value of the profile that nests at most 127 levels deep is read as that value.

@@ -7,6 +7,7 @@
 //! - `writing`: from a value to its one text
 //! - `laws`: what holds of all values and their texts
 //! - `fault`: why bytes are no value
+//! - `same`: whether two values are the same
 //! - `profile`: the walk that tells whether a value is of the profile
 #![tactic(auto)]
 
@@ -17,13 +18,16 @@ mod laws;
 mod members;
 mod profile;
 mod reading;
+mod same;
 mod value;
 mod writing;
 
 pub use fault::{JsonFault, NoMemory};
 pub use items::Items;
 pub use json_ref::JsonRef;
-pub use laws::{key_order, one_text, texts_are_read, texts_differ, what_is_put, what_is_taken};
+pub use laws::{
+    key_order, one_text, one_value, texts_are_read, texts_differ, what_is_put, what_is_taken,
+};
 pub use members::Members;
 pub use reading::{MAX_LEVELS, read, read_within};
 pub use value::Json;
