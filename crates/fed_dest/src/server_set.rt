@@ -11,7 +11,7 @@ use std::marker::Model;
 /// Some servers of a list, in the order of their places, each once.
 ///
 /// Contracts see it as the list of their places.
-#[derive(Drop)]
+#[derive(Debug, Drop)]
 pub struct ServerSet {
     servers: Vec<ServerIndex>,
 }
@@ -105,4 +105,28 @@ impl ServerSet {
         let servers = Vec::from_slice(alloc, &self.servers)?;
         Ok(ServerSet { servers })
     }
+}
+
+/// Sets are equal where the same servers are in them. It takes no memory.
+impl PartialEq for ServerSet {
+    ghost use Rattle.std.specs.Prelude.{◌≡◌, ◌↔◌, IsTrue, bytes_eq};
+    ghost use Rattle.std.specs.Cmp.{partial_equiv_from_equiv};
+    ghost use Rattle.std.specs.Cmp.Lexicographic.{nat_list_eq_equiv};
+
+    ghost eq = { bytes_eq };
+
+    ghost laws = { partial_equiv_from_equiv nat_list_eq_equiv };
+
+    fn eq(&self, other: &ServerSet) -> bool
+        ensures places { result ≡ bytes_eq self.now other.now }
+        ensures same { IsTrue result ↔ (self.now ≡ other.now) }
+    {
+        self.servers.as_slice() == other.servers.as_slice()
+    }
+}
+
+impl Eq for ServerSet {
+    ghost use Rattle.std.specs.Cmp.Lexicographic.{nat_list_eq_equiv};
+
+    ghost laws = { nat_list_eq_equiv };
 }

@@ -1,9 +1,10 @@
 -- An event that has passed the checks on receipt that need no room (Matrix, Server-Server API, "Checks performed on receipt of a
 -- PDU", checks 1 to 3).
-use Rattle.std.specs.Prelude.{◌≡◌, ℕ, List, Bool, true, Option, None, refl, codes, if◌then◌else◌, option_and_then}
+use Rattle.std.specs.Prelude.{◌≡◌, ℕ, List, ◌∷◌, Bool, true, Option, None, refl, codes, if◌then◌else◌, option_and_then}
 use Rattle.std.specs.Coded.{Coded, code_by, coded×, coded_bool}
 use Rattle.serde_json.specs.Data.{Data}
 use Rattle.serde_json.specs.Find.{as_str, get}
+use Rattle.fed_json.specs.CanonicalText.{canonical_text}
 use Rattle.fed_json.specs.Code.{coded_data}
 use Rattle.fed_event.specs.Tests.{holds, first_fault_of}
 use Rattle.fed_event.specs.Ids.{domain_of}
@@ -17,6 +18,10 @@ use Rattle.fed_event.specs.Signatures.{is_signed_by, is_signed}
 pub record CheckedEvent : Type 0 where
   pub event : Data
   pub authorised : Bool
+
+-- a text that tells it from every other: whether it is authorised, and the canonical text of the event
+abbrev pub checked_text : CheckedEvent → List ℕ
+checked_text checked = (if checked.authorised then 1 else 0) ∷ canonical_text checked.event
 
 abbrev pub checked_code : Coded CheckedEvent
 checked_code = code_by (Data × Bool) (coded× coded_data coded_bool) (λ c. (c.event, c.authorised)) (λ p. record { event = p.0; authorised = p.1 }) (λ _. refl)

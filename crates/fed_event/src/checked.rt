@@ -72,6 +72,37 @@ impl Checked {
     }
 }
 
+/// Checked events are equal where the events are, and both or none are authorised. It takes no memory.
+impl PartialEq for Checked {
+    ghost use Rattle.std.specs.Prelude.{◌≡◌, ◌↔◌, IsTrue, bytes_eq};
+    ghost use Rattle.std.specs.Cmp.{on_per, partial_equiv_from_equiv};
+    ghost use Rattle.std.specs.Cmp.Lexicographic.{nat_list_eq_equiv};
+    ghost use Rattle.fed_json.specs.Profile.{IsProfile};
+    ghost use Rattle.fed_event.specs.Checked.{checked_text};
+
+    ghost eq = { λ c d. bytes_eq (checked_text c) (checked_text d) };
+
+    ghost laws = { on_per checked_text (partial_equiv_from_equiv nat_list_eq_equiv) };
+
+    fn eq(&self, other: &Checked) -> bool
+        ensures texts { result ≡ bytes_eq (checked_text self.now) (checked_text other.now) }
+        ensures same { IsTrue result ↔ (self.now ≡ other.now) }
+        ensures one { IsProfile self.now.event }
+        ensures another { IsProfile other.now.event }
+    {
+        let is_same_event = self.event == other.event;
+        is_same_event && self.authorised == other.authorised
+    }
+}
+
+impl Eq for Checked {
+    ghost use Rattle.std.specs.Cmp.{on_equiv};
+    ghost use Rattle.std.specs.Cmp.Lexicographic.{nat_list_eq_equiv};
+    ghost use Rattle.fed_event.specs.Checked.{checked_text};
+
+    ghost laws = { on_equiv checked_text nat_list_eq_equiv };
+}
+
 /// Why an event is refused on receipt. Its text is the verdict that a transaction's reply gives.
 #[derive(Clone, Copy, Debug, PartialEq, Eq, Error)]
 pub enum CheckFault {

@@ -213,3 +213,33 @@ impl Pdu {
         })
     }
 }
+
+/// Events are equal where their JSON values are. It takes no memory.
+impl PartialEq for Pdu {
+    ghost use Rattle.std.specs.Prelude.{◌≡◌, ◌↔◌, IsTrue};
+    ghost use Rattle.std.specs.Cmp.{on_per, partial_equiv_from_equiv};
+    ghost use Rattle.std.specs.Cmp.Lexicographic.{nat_list_eq_equiv};
+    ghost use Rattle.fed_json.specs.CanonicalText.{canonical_text, have_one_text};
+    ghost use Rattle.fed_json.specs.Profile.{IsProfile};
+
+    ghost eq = { have_one_text };
+
+    ghost laws = { on_per canonical_text (partial_equiv_from_equiv nat_list_eq_equiv) };
+
+    fn eq(&self, other: &Pdu) -> bool
+        ensures texts { result ≡ have_one_text self.now other.now }
+        ensures same { IsTrue result ↔ (self.now ≡ other.now) }
+        ensures one { IsProfile self.now }
+        ensures another { IsProfile other.now }
+    {
+        self.json == other.json
+    }
+}
+
+impl Eq for Pdu {
+    ghost use Rattle.std.specs.Cmp.{on_equiv};
+    ghost use Rattle.std.specs.Cmp.Lexicographic.{nat_list_eq_equiv};
+    ghost use Rattle.fed_json.specs.CanonicalText.{canonical_text};
+
+    ghost laws = { on_equiv canonical_text nat_list_eq_equiv };
+}
