@@ -1,4 +1,7 @@
 // What a journal holds.
+ghost use Rattle.std.specs.Prelude.{◌≡◌};
+ghost use Rattle.fed_journal.specs.Journal.{loses};
+
 use fed_dest::{ServerIndex, ServerSet};
 use fed_event::Checked;
 use fed_json::Json;
@@ -21,4 +24,18 @@ pub enum Entry {
     Edu(Json, ServerSet),
     /// The outbox of a destination was closed.
     Close(ServerIndex, Cause),
+}
+
+impl Entry {
+    /// Whether it closes the outbox of a destination because what takes the parcels is gone.
+    pub(crate) fn loses(&self, destination: ServerIndex) -> bool
+        ensures { result ≡ loses destination self.now }
+    {
+        match self {
+            Entry::Close(dest, Cause::Lost) => *dest == destination,
+            Entry::Close(_, Cause::Asked) => false,
+            Entry::Event(_, _) => false,
+            Entry::Edu(_, _) => false,
+        }
+    }
 }

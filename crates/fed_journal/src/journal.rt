@@ -2,7 +2,7 @@
 ghost use Rattle.std.specs.Prelude.{◌≡◌, ◌≢◌, ◌<◌, ◌≤◌, ◌+◌, ◌^◌, [], Err, length, not, if◌then◌else◌, IfOk, IsOk, OnOk, OnErr, IsErrOf};
 ghost use Rattle.fed_journal.specs.declared.entry.Entry.TheVariants as entry;
 ghost use Rattle.fed_journal.specs.declared.fault.JournalFault.TheVariants.{Memory, Limit};
-ghost use Rattle.fed_journal.specs.Journal.{with_room, with_entry, next_place, is_closed, addressed, addressed_edus, events_of, edus_of};
+ghost use Rattle.fed_journal.specs.Journal.{with_room, with_entry, next_place, is_closed, is_lost, addressed, addressed_edus, events_of, edus_of};
 ghost use Rattle.fed_journal.specs.Left.{addressed_left, addressed_edus_left, events_left};
 
 use crate::entry::{Cause, Entry};
@@ -93,6 +93,13 @@ impl Journal {
         ensures { result ≡ next_place self.now.entries dest }
     {
         self.lanes[dest.place()].next(dest)
+    }
+
+    /// Whether the outbox of a destination was closed because what takes its parcels is gone. It goes through the entries.
+    pub fn is_lost(&self, dest: ServerIndex) -> bool
+        ensures { result ≡ is_lost self.now.entries dest }
+    {
+        self.entries.iter().any(|entry| entry.loses(dest))
     }
 
     /// Appends an event for these destinations, which room was made for, and gives its number among the events of the journal, from 1. It
