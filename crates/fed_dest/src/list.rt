@@ -1,8 +1,9 @@
 // The servers that a server sends to and takes from.
-ghost use Rattle.std.specs.Prelude.{◌≡◌, ◌<◌, ◌≤◌, Some, Err, IsOk, IfOk, IfSome, IfNone, length, slice_get};
+ghost use Rattle.std.specs.Prelude.{◌≡◌, ◌<◌, ◌≤◌, Some, Err, IsOk, IfOk, IfSome, IfNone, length, slice_get, bytes_eq};
+ghost use Rattle.std.specs.List.{list_any};
 ghost use Rattle.std.specs.List.Sorted.{IsPermutation};
 ghost use Rattle.fed_dest.specs.ServerName.{IsServerName};
-ghost use Rattle.fed_dest.specs.List.{list_fault, place_of};
+ghost use Rattle.fed_dest.specs.List.{list_fault, has_doubled, place_of};
 ghost use Rattle.fed_dest.specs.ListParts.{AreInOrder};
 
 use crate::server_index::{MAX_SERVERS, ServerIndex};
@@ -133,4 +134,41 @@ pub enum ListFault {
     /// A name stands there twice.
     #[error("a server is listed twice")]
     Doubled,
+}
+
+impl ListFault {
+    /// Why names make no list of servers: the first of the faults, in their order, or none. It takes no memory.
+    pub fn of(names: &[ServerName]) -> Option<ListFault>
+        ensures { result ≡ list_fault names.now }
+    {
+        if names.is_empty() {
+            return Some(ListFault::Empty);
+        }
+        if names.len() > MAX_SERVERS {
+            return Some(ListFault::TooMany);
+        }
+        if has_doubled(names) {
+            return Some(ListFault::Doubled);
+        }
+        None
+    }
+}
+
+// Whether a name stands there twice.
+fn has_doubled(names: &[ServerName]) -> bool
+    ensures { result ≡ has_doubled names.now }
+{
+    for (place, name) in names.iter().enumerate() {
+        if is_among(&names[place + 1..], name) {
+            return true;
+        }
+    }
+    false
+}
+
+// Whether a name is among these.
+fn is_among(names: &[ServerName], name: &ServerName) -> bool
+    ensures { result ≡ list_any (bytes_eq name.now) names.now }
+{
+    names.iter().any(|other| name.as_str() == other.as_str())
 }

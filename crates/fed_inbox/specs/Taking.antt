@@ -1,10 +1,10 @@
 -- What taking a transaction comes to (Server-Server API, "Transactions", "PDUs", "EDUs"): every element of `pdus` is taken as its
 -- canonical text, an object among them gets a verdict under its event id, those without a fault are handed on to the rooms, and
 -- the elements of `edus` that are EDUs are taken.
-use Rattle.std.specs.Prelude.{ℕ, List, [], ◌∷◌, map, filter, codes, Bool, ◌&&◌, not, is_some, is_none, Option, Some, None, option_map, option_and_then, if◌then◌else◌}
+use Rattle.std.specs.Prelude.{ℕ, List, [], ◌∷◌, map, filter, codes, Bool, ◌&&◌, not, is_some, is_none, Option, Some, None, option_map, if◌then◌else◌}
 use Rattle.std.specs.FinMap as finite
 use Rattle.serde_json.specs.Data.{Data}
-use Rattle.serde_json.specs.Find.{get, as_str, as_object}
+use Rattle.serde_json.specs.Find.{as_object}
 use Rattle.fed_json.specs.CanonicalText.{canonical_text}
 use Rattle.fed_event.specs.Names.{is_one_of}
 use Rattle.fed_event.specs.Fields.{room_id_of}
@@ -14,6 +14,7 @@ use Rattle.fed_event.specs.Verdict.{verdict_of}
 use Rattle.fed_event.specs.Keys.{Checks}
 use Rattle.fed_event.specs.Signatures.{is_signed}
 use Rattle.fed_event.specs.Checked.{CheckedEvent, checked_of}
+use Rattle.fed_journal.specs.Edu.{is_edu}
 use Rattle.fed_txn.specs.Verdicts.{VerdictMap}
 use Rattle.fed_txn.specs.Reply.{reply_value}
 use Rattle.fed_txn.specs.Transaction.{Transaction}
@@ -64,10 +65,6 @@ module _ (checks : Checks) (rooms : List (List ℕ)) where
   -- those that a transaction brings for the rooms
   abbrev pub fresh_of : List Data → List CheckedEvent
   fresh_of elements = passing (firsts elements)
-
--- an object with a text `edu_type` and an object `content`
-abbrev pub is_edu : Data → Bool
-is_edu element = is_some (option_and_then as_str (get (codes "edu_type") element)) && is_some (option_and_then as_object (get (codes "content") element))
 
 pub record Taking : Type 0 where
   pub pdus : List (List ℕ)

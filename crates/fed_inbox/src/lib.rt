@@ -44,7 +44,6 @@ pub use laws::{
     what_is_kept_was_answered, what_one_more_request_adds, what_the_queues_get, what_the_rooms_get,
     whole_origins_are_apart, whole_repeats_get_the_kept_reply,
 };
-pub use outcome::is_edu;
 pub use receiver::Receiver;
 pub use refusal::Refusal;
 pub use send_path::txn_of;

@@ -3,12 +3,14 @@ ghost use Rattle.std.specs.Prelude.{◌≡◌, map, filter, IfOk};
 ghost use Rattle.fed_json.specs.CanonicalText.{canonical_text};
 ghost use Rattle.fed_txn.specs.Transaction.{parts};
 ghost use Rattle.fed_inbox.specs.OutcomeParts.{taking};
-ghost use Rattle.fed_inbox.specs.Taking.{taking_of, is_edu};
+ghost use Rattle.fed_journal.specs.Edu.{is_edu};
+ghost use Rattle.fed_inbox.specs.Taking.{taking_of};
 
 use crate::received::Received;
 use crate::rooms::Rooms;
 use crate::text_list::TextList;
 use fed_event::{Checked, Keys, Texts};
+use fed_journal::is_edu;
 use fed_json::{Json, NoMemory, canonical};
 use fed_txn::{TransactionIn, write_reply};
 use std::alloc::Global;
@@ -70,18 +72,4 @@ fn edu_texts(alloc: Global, elements: &Vec<Json>) -> Result<TextList, NoMemory>
         }
     }
     Ok(texts)
-}
-
-/// Whether a value is an ephemeral data unit (Server-Server API, "EDUs"): an object with a text `edu_type` and an object `content`.
-pub fn is_edu(element: &Json) -> bool
-    ensures { result ≡ is_edu element.now }
-{
-    let has_type = element
-        .member("edu_type")
-        .and_then(|part| part.text())
-        .is_some();
-    let has_content = element
-        .member("content")
-        .is_some_and(|part| part.is_object());
-    has_type && has_content
 }

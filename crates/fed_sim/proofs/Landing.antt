@@ -15,7 +15,8 @@ use Rattle.fed_txn.specs.Writing.{event_of, received, IsWithinLimits}
 use Rattle.fed_inbox.specs.declared.refusal.Refusal.TheVariants.{OutOfMemory}
 use Rattle.fed_inbox.specs.Reply.{Answer, accepted, refused}
 use Rattle.fed_inbox.specs.Log.{LogState}
-use Rattle.fed_inbox.specs.Taking.{Taking, taking_of, is_edu}
+use Rattle.fed_journal.specs.Edu.{is_edu}
+use Rattle.fed_inbox.specs.Taking.{Taking, taking_of}
 use Rattle.fed_inbox.specs.Answer.{with_taking}
 use Rattle.fed_inbox.proofs.Runs.{get-insert_same, get-insert_other}
 use Rattle.fed_exchange.specs.Messages.{asked_of, bytes_sent, IsReadable}

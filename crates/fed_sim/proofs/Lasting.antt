@@ -15,12 +15,11 @@ use Rattle.fed_journal.specs.Queues.{queue_after}
 use Rattle.fed_outbox.specs.Collecting.{Way}
 use Rattle.fed_inbox.specs.Log.{LogState}
 use Rattle.fed_inbox.specs.Inbox.{log_at}
-use Rattle.fed_inbox.specs.Taking.{is_edu}
 use Rattle.fed_room_contract.specs.Draft.{DraftFields}
 use Rattle.fed_sim.specs.declared.outcome.Outcome.{Outcome}
 use Rattle.fed_sim.specs.declared.outcome.Outcome.TheVariants as outcome
 use Rattle.fed_sim.specs.Arriving.{IsArrived, no_room, nothing, arrived, IsArrivedInPart, same, in_part, IsGivenTo, unknown_room, known_room}
-use Rattle.fed_journal.specs.Edu.{max_edu, max_edu_depth, edu_fault_of}
+use Rattle.fed_journal.specs.Edu.{is_edu, max_edu, max_edu_depth, edu_fault_of}
 use Rattle.fed_sim.specs.Offering.{IsOfferedAt, IsOffered, IsEduOffered, IsClosedFor}
 use Rattle.fed_sim.specs.Offering as offering
 use Rattle.fed_sim.specs.Server.{ServerState}

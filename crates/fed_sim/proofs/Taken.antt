@@ -15,7 +15,8 @@ use Rattle.fed_inbox.specs.Reply.{Answer, accepted, refused}
 use Rattle.fed_inbox.specs.Log.{LogState}
 use Rattle.fed_inbox.specs.Inbox.{log_at, pdus_by, edus_by, taken_of, taken_edus_of}
 use Rattle.fed_inbox.specs.Answer.{with_taking}
-use Rattle.fed_inbox.specs.Taking.{Taking, taking_of, is_edu}
+use Rattle.fed_journal.specs.Edu.{is_edu}
+use Rattle.fed_inbox.specs.Taking.{Taking, taking_of}
 use Rattle.fed_inbox.specs.WholeRequest.{IsAnsweredWhole}
 use Rattle.fed_outbox.specs.Collecting.{Way}
 use Rattle.fed_sim.specs.declared.outcome.Outcome.{Outcome}

@@ -1,6 +1,6 @@
 use Rattle.std.proofs.Common.{◌≡◌, ◌++◌, map, filter, drop}
 use Rattle.fed_json.specs.CanonicalText.{canonical_text}
-use Rattle.fed_inbox.specs.Taking.{is_edu}
+use Rattle.fed_journal.specs.Edu.{is_edu}
 use Rattle.fed_inbox.proofs.outcome.edu_texts.Given as goal
 
 -- what is written, and the texts of what is left
