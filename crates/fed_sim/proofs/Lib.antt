@@ -23,5 +23,6 @@ pub mod Taken
 pub mod Beginning
 pub mod Delivered
 pub mod Runs
+pub mod Starting
 pub mod Stored
 pub mod Journals

@@ -1,11 +1,11 @@
 -- What a world is after a list of steps.
-use Rattle.std.specs.Prelude.{◌≡◌, ℕ, List, [], Some, Ok, length, map, slice_get, string_bytes}
+use Rattle.std.specs.Prelude.{◌≡◌, ℕ, false, List, [], Some, None, Ok, length, map, slice_get, string_bytes}
 use Rattle.std.specs.List.Sorted.{IsPermutation}
 use Rattle.fed_event.specs.Checked.{CheckedEvent}
 use Rattle.fed_room_contract.specs.Room.{empty_room}
 use Rattle.fed_room.specs.Creation.{started_of}
 use Rattle.fed_room.specs.Room.{room_of, room_rules}
-use Rattle.fed_room.specs.Start.{after_all}
+use Rattle.fed_room.specs.Start.{after_all, start_fault_of}
 use Rattle.fed_dest.specs.ListParts.{AreInOrder}
 use Rattle.fed_sim.specs.declared.outcome.Outcome.{Outcome}
 use Rattle.fed_sim.specs.declared.setup.RoomSetup.{RoomSetup}
@@ -15,13 +15,20 @@ use Rattle.fed_sim.specs.Hosted.{HostedState}
 use Rattle.fed_sim.specs.NewServer.{IsNewServer}
 use Rattle.fed_sim.specs.Offering.{signer_named}
 use Rattle.fed_sim.specs.Server.{ServerState}
+use Rattle.fed_sim.specs.Setup.{id_of, users_of, is_setup}
 use Rattle.fed_sim.specs.Steps.{Ran}
 use Rattle.fed_sim.specs.World.{WorldState}
 
--- a room as it begins: the events that it is started with are stored, and nothing waits in front of it
-pub record IsBegun (names : List (List ℕ)) (setup : RoomSetup) (h : HostedState) : Type 0 where
+-- a room starts with these events, which its users make at the servers of these names: each of them is accepted
+pub record StartsWith (names : List (List ℕ)) (setup : RoomSetup) (events : List CheckedEvent) : Type 0 where
+  pub made : started_of signer_named names (id_of setup) (users_of setup) ≡ Ok events
+  pub accepted : start_fault_of room_rules events ≡ None
+
+-- a room as it begins at a server of this name: the events that it starts with are stored, and nothing waits in front of it
+pub record IsBegun (names : List (List ℕ)) (own : List ℕ) (setup : RoomSetup) (h : HostedState) : Type 0 where
   pub events : List CheckedEvent
-  pub started : started_of signer_named names (string_bytes setup.id) (map string_bytes setup.users.items) ≡ Ok events
+  pub starts : StartsWith names setup events
+  pub own_is : h.room.own ≡ own
   pub room_is : room_of h.room ≡ after_all room_rules empty_room events
   pub queue_is : h.queue ≡ []
 
@@ -29,8 +36,8 @@ pub record IsBegun (names : List (List ℕ)) (setup : RoomSetup) (h : HostedStat
 pub record IsBeginning (names known : List (List ℕ)) (setups : List RoomSetup) (place : ℕ) (s : ServerState) : Type 0 where
   pub hosted : List HostedState
   pub count : length hosted ≡ length setups
-  pub begun : (k : ℕ) (h : HostedState) → slice_get hosted k ≡ Some h → (setup : RoomSetup) → slice_get setups k ≡ Some setup → IsBegun names setup h
   pub new : IsNewServer names known place hosted s
+  pub begun : (k : ℕ) (h : HostedState) → slice_get hosted k ≡ Some h → (setup : RoomSetup) → slice_get setups k ≡ Some setup → IsBegun names new.name setup h
 
 -- a world that begins with a setup: the servers in the order of their names, and nothing was sent
 pub record Begins (setup : Setup) (w : WorldState) : Type 0 where
@@ -42,6 +49,18 @@ pub record Begins (setup : Setup) (w : WorldState) : Type 0 where
   pub servers : (k : ℕ) (s : ServerState) → slice_get w.servers k ≡ Some s → IsBeginning w.names w.known setup.rooms.items k s
   pub packets : w.packets ≡ []
   pub now : w.now ≡ 0
+
+-- one of the rooms starts with no events
+pub record HasNoStart (names : List (List ℕ)) (setups : List RoomSetup) : Type 0 where
+  pub place : ℕ
+  pub setup : RoomSetup
+  pub setup_is : slice_get setups place ≡ Some setup
+  pub none : (events : List CheckedEvent) → ¬ (StartsWith names setup events)
+
+-- Why no world begins with a setup: the names make no list, or a room has a fault; or the names make one, and a room starts with no events.
+pub data CannotBegin (setup : Setup) : Type 0 where
+  no_setup : is_setup setup ≡ false → CannotBegin setup
+  no_start : (names : List (List ℕ)) → IsPermutation setup.servers.items names → AreInOrder names → HasNoStart names setup.rooms.items → CannotBegin setup
 
 -- the world after the steps, and what was told of each
 pub record IsRun (setup : Setup) (steps : List Step) (replies : List Outcome) (new : WorldState) : Type 0 where

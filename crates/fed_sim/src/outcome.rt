@@ -39,7 +39,7 @@ pub enum Collected {
 }
 
 /// What a step answered.
-#[derive(Drop)]
+#[derive(Debug, PartialEq, Eq, Drop)]
 pub enum Outcome {
     /// Memory ran out. Nothing changed, but that the room of an `Apply` may have received the event and stored some that waited.
     NoMemory,

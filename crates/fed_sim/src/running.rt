@@ -1,18 +1,20 @@
 // A world after a list of steps.
-ghost use Rattle.std.specs.Prelude.{◌≡◌, ℕ, Some, IfOk, length, map, slice_get, string_bytes};
+ghost use Rattle.std.specs.Prelude.{◌≡◌, ℕ, true, false, Some, Err, IfOk, IfErr, OnOk, length, map, slice_get, string_bytes};
 ghost use Rattle.fed_sim.specs.declared.server.Server.{Server};
 ghost use Rattle.fed_sim.specs.declared.setup.RoomSetup.{RoomSetup};
+ghost use Rattle.fed_sim.specs.declared.setup.SimFault.TheVariants.{BadSetup};
 ghost use Rattle.fed_sim.specs.Headline.{Headline};
 ghost use Rattle.fed_sim.specs.Hosted.{HostedState};
-ghost use Rattle.fed_sim.specs.Running.{Begins, IsBeginning, IsBegun};
+ghost use Rattle.fed_sim.specs.Running.{Begins, IsBeginning, IsBegun, HasNoStart, CannotBegin};
 ghost use Rattle.fed_sim.specs.ServerParts.{server_of};
+ghost use Rattle.fed_sim.specs.Setup.{is_setup};
 ghost use Rattle.fed_sim.specs.WorldParts.{world_of};
 
 use crate::hosted::Hosted;
 use crate::laws::runs_deliver;
 use crate::server::{Server, keys_of};
 use crate::setup::{RoomSetup, Setup, SimFault};
-use crate::setup_check::{list_of, room_fault};
+use crate::setup_check::{is_setup, list_of};
 use crate::step::Step;
 use crate::world::World;
 use fed_dest::{List, ServerIndex};
@@ -31,9 +33,13 @@ use std::alloc::Global;
 ///
 /// # Errors
 ///
-/// `BadSetup` where no world begins with the setup; `Memory` where memory for its beginning ran out.
+/// `BadSetup` where no world begins with the setup, which is told without memory where its names make no list or one of its rooms has a
+/// fault; `Memory` where memory for its beginning ran out.
 pub fn run(alloc: Global, setup: &Setup, steps: &[Step]) -> Result<World, SimFault>
-    ensures { IfOk result (λ world. Headline setup.now steps.now world.replies.items (world_of world)) }
+    ensures headline { IfOk result (λ world. Headline setup.now steps.now world.replies.items (world_of world)) }
+    ensures good { OnOk result (is_setup setup.now ≡ true) }
+    ensures bad { is_setup setup.now ≡ false → result ≡ Err BadSetup }
+    ensures bad_only { IfErr result (λ fault. fault ≡ BadSetup → CannotBegin setup.now) }
 {
     runs_deliver();
     let mut world = begin(alloc, setup)?;
@@ -49,10 +55,15 @@ pub fn run(alloc: Global, setup: &Setup, steps: &[Step]) -> Result<World, SimFau
 
 // The world before any step.
 fn begin(alloc: Global, setup: &Setup) -> Result<World, SimFault>
-    ensures { IfOk result (λ world. Begins setup.now (world_of world)) }
+    ensures begins { IfOk result (λ world. Begins setup.now (world_of world)) }
+    ensures good { OnOk result (is_setup setup.now ≡ true) }
+    ensures bad { is_setup setup.now ≡ false → result ≡ Err BadSetup }
+    ensures bad_only { IfErr result (λ fault. fault ≡ BadSetup → CannotBegin setup.now) }
 {
+    if !is_setup(setup) {
+        return Err(SimFault::BadSetup);
+    }
     let list = list_of(alloc, &setup.servers)?;
-    check_rooms(&setup.rooms, &list)?;
     let known = ids_of(alloc, &setup.rooms)?;
     let servers = servers(alloc, &list, &known, &setup.rooms)?;
     Ok(World {
@@ -64,16 +75,6 @@ fn begin(alloc: Global, setup: &Setup) -> Result<World, SimFault>
         now: 0,
         replies: Vec::new(alloc),
     })
-}
-
-// Whether all rooms can begin.
-fn check_rooms(rooms: &[RoomSetup], list: &List) -> Result<(), SimFault> {
-    for place in 0..rooms.len() {
-        if room_fault(&rooms[place], &rooms[..place], list).is_some() {
-            return Err(SimFault::BadSetup);
-        }
-    }
-    Ok(())
 }
 
 // The ids of the rooms.
@@ -96,6 +97,7 @@ fn servers(
 ) -> Result<Vec<Server>, SimFault>
     ensures count { IfOk result (λ servers. length servers.items ≡ length list.now) }
     ensures each { IfOk result (λ servers. (k : ℕ) (s : Server) → slice_get servers.items k ≡ Some s → IsBeginning list.now (map string_bytes known.now) rooms.now k (server_of s)) }
+    ensures bad { IfErr result (λ fault. fault ≡ BadSetup → HasNoStart list.now rooms.now) }
 {
     let keys = all_keys(alloc, list)?;
     let count = list.len();
@@ -127,7 +129,8 @@ fn hosted_rooms(
     keys: &[StandIn],
 ) -> Result<Vec<Hosted>, SimFault>
     ensures count { IfOk result (λ hosted. length hosted.items ≡ length rooms.now) }
-    ensures each { IfOk result (λ hosted. (k : ℕ) (h : HostedState) → slice_get hosted.items k ≡ Some h → (setup : RoomSetup) → slice_get rooms.now k ≡ Some setup → IsBegun keys.now setup h) }
+    ensures each { IfOk result (λ hosted. (k : ℕ) (h : HostedState) → slice_get hosted.items k ≡ Some h → (setup : RoomSetup) → slice_get rooms.now k ≡ Some setup → IsBegun keys.now own.now setup h) }
+    ensures bad { IfErr result (λ fault. fault ≡ BadSetup → HasNoStart keys.now rooms.now) }
 {
     let mut hosted = Vec::with_capacity(alloc, rooms.len())?;
     for room in rooms {

@@ -7,6 +7,7 @@
 //! - `replies`: a store of replies
 //! - `requests`: requests on their whole way: signed, written, read and answered; copies, and replies that go out
 //! - `servers`: copies of lists and sets of servers
+//! - `worlds`: worlds by what others see of them, and setups that no world begins with
 //! - `runs`: runs over readers and writers that give and take little, fail, or never end
 #![tactic(auto)]
 
@@ -24,3 +25,5 @@ mod runs;
 mod servers;
 #[cfg(test)]
 mod transactions;
+#[cfg(test)]
+mod worlds;

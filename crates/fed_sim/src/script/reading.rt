@@ -78,17 +78,14 @@ impl Reading {
 
     // Takes a room, which stands before the first step.
     fn take_room(&mut self, alloc: Global, id: &str, users: &str) -> Result<(), LineFault> {
-        let Some(servers) = &self.listed else {
-            return Err(LineFault::Wrong(ScriptError::WrongWords));
-        };
-        if !self.steps.is_empty() {
+        if self.listed.is_none() || !self.steps.is_empty() {
             return Err(LineFault::Wrong(ScriptError::WrongWords));
         }
         let room = RoomSetup {
             id: String::from_str(alloc, id)?,
             users: texts_of(alloc, users)?,
         };
-        if let Some(fault) = room_fault(&room, &self.setup.rooms, servers) {
+        if let Some(fault) = room_fault(&room, &self.setup.rooms, &self.setup.servers) {
             return Err(LineFault::from(fault));
         }
         self.setup.rooms.push(room)?;

@@ -8,4 +8,4 @@ use Rattle.fed_sim.proofs.running.hosted_rooms.Given as goal
 -- the rooms so far
 abbrev pub invariant-loop-room : goal.invariant-loop-room
 invariant-loop-room l =
-    (length l.hosted.items ≡ l.room-index) × ((k : ℕ) (h : HostedState) → slice_get l.hosted.items k ≡ Some h → (setup : RoomSetup) → slice_get l.rooms k ≡ Some setup → IsBegun l.keys setup h)
+    (length l.hosted.items ≡ l.room-index) × ((k : ℕ) (h : HostedState) → slice_get l.hosted.items k ≡ Some h → (setup : RoomSetup) → slice_get l.rooms k ≡ Some setup → IsBegun l.keys l.own setup h)

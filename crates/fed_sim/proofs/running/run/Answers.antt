@@ -1,5 +1,6 @@
 use Rattle.std.proofs.Common.{arith, ◌++◌, ◌∷◌, length, List, take, [], slice_index_or, sym, ap, ◌∙◌, subst}
 use Rattle.std.proofs.lemmas.List.{take_more, take_all, length-append}
+use Rattle.std.proofs.lemmas.Result.{err_from_is_err_and}
 use Rattle.fed_sim.specs.declared.outcome.Outcome.{Outcome}
 use Rattle.fed_sim.specs.declared.step.Step.{Step}
 use Rattle.fed_sim.specs.Steps.{Makes, Ran, begun, next}
@@ -33,12 +34,17 @@ loop-step-preserved c =
           (subst (λ (s : Step). Makes s (world_of c.loop-step.world) c.step-outcome.result (world_of c.step-outcome.new.self)) c.step-item.is c.step-outcome.ensures))),
     )
 
-pub returns : goal.returns
-returns c =
+pub returns-clause-headline : goal.returns-clause-headline
+returns-clause-headline c =
     let is : IsRun c.args.setup.now c.args.steps.now c.loop-step.replies.items (world_of c.loop-step.world) = record {
       begin = world_of c.in_ok-world.world;
-      begins = c.in_ok-world.ensures;
+      begins = c.in_ok-world.ensures.begins;
       ran = subst (λ (ss : List Step). Ran (world_of c.in_ok-world.world) ss c.loop-step.replies.items (world_of c.loop-step.world)) (take_all c.loop-step.step-index c.args.steps.now c.loop-step-test.false)
           c.loop-step.invariant.2;
     } in
     c.runs_deliver.ensures c.args.setup.now c.args.steps.now c.loop-step.replies.items (world_of c.loop-step.world) is
+
+pub returns-in_err-world-clause-bad_only : goal.returns-in_err-world-clause-bad_only
+returns-in_err-world-clause-bad_only c =
+    let p = err_from_is_err_and c.from_residual.result c.from_residual.ensures.1 in
+    rw (p.1, p.2) c.in_err-world.ensures.bad_only

@@ -9,6 +9,7 @@ use Rattle.fed_sim.specs.declared.server.Server.{Server}
 use Rattle.fed_sim.specs.Running.{IsBeginning, IsBegun}
 use Rattle.fed_sim.specs.ServerParts.{server_of}
 use Rattle.fed_sim.proofs.Built.{each_pushed}
+use Rattle.fed_sim.proofs.Starting.{is_beginning}
 use Rattle.fed_sim.proofs.running.servers.Goals as goal
 
 pub loop-place-init : goal.loop-place-init
@@ -22,13 +23,11 @@ loop-place-preserved c =
       omega (arith, longer, count),
       each_pushed (λ k (s : Server). IsBeginning c.args.list.now (map string_bytes c.args.known.now) c.args.rooms.now k (server_of s)) c.loop-place.servers.items c.push.new.self.items c.in_ok-new.field-0 more
           c.loop-place.invariant.1
-          (record {
-            hosted = c.in_ok-hosted.hosted.items;
-            count = c.in_ok-hosted.ensures.count;
-            begun = subst (λ names. (k : ℕ) (h : HostedState) → slice_get c.in_ok-hosted.hosted.items k ≡ Some h → (setup : RoomSetup) → slice_get c.args.rooms.now k ≡ Some setup → IsBegun names setup h)
-                (c.deref.ensures.value ∙ c.in_ok-keys.ensures) c.in_ok-hosted.ensures.each;
-            new = subst (λ place. IsNewServer c.args.list.now (map string_bytes c.args.known.now) place c.in_ok-hosted.hosted.items (server_of c.in_ok-new.field-0)) (c.new-own.ensures ∙ sym count) c.in_ok-new.ensures;
-          }),
+          (is_beginning c.args.list.now (map string_bytes c.args.known.now) c.args.rooms.now (length c.loop-place.servers.items) (server_of c.in_ok-new.field-0) c.in_ok-hosted.hosted.items c.name.result.now c.in_ok-hosted.ensures.count
+          (subst (λ place. IsNewServer c.args.list.now (map string_bytes c.args.known.now) place c.in_ok-hosted.hosted.items (server_of c.in_ok-new.field-0)) (c.new-own.ensures ∙ sym count) c.in_ok-new.ensures)
+          (subst (λ place. slice_get c.args.list.now place ≡ Some c.name.result.now) (c.new-own.ensures ∙ sym count) c.name.ensures.text)
+          (subst (λ names. (k : ℕ) (h : HostedState) → slice_get c.in_ok-hosted.hosted.items k ≡ Some h → (setup : RoomSetup) → slice_get c.args.rooms.now k ≡ Some setup → IsBegun names c.name.result.now setup h)
+          (c.deref.ensures.value ∙ c.in_ok-keys.ensures) c.in_ok-hosted.ensures.each)),
     )
 
 pub returns-clause-count : goal.returns-clause-count

@@ -15,4 +15,4 @@ loop-name-preserved c =
 pub returns-clause-names : goal.returns-clause-names
 returns-clause-names c =
     let all = c.loop-name.invariant ∙ take_all c.loop-name.name-index c.args.names.now c.loop-name-test.false in
-    subst (λ ns. IfOk c.map_err.result (λ list. IsPermutation ns list)) all (search rules)
+    subst (λ ns. IsPermutation ns c.unwrap.result) all (search rules)

@@ -1,0 +1,71 @@
+-- Rooms that start, and rooms that do not.
+use Rattle.std.proofs.Common.{◌≡◌, ◌≢◌, ℕ, List, length, Some, None, Ok, Err, sym, ap, subst, ◌∙◌}
+use Rattle.std.specs.Prelude.{slice_get}
+use Rattle.fed_event.specs.Checked.{CheckedEvent}
+use Rattle.fed_room.specs.Creation.{started_of}
+use Rattle.fed_room.specs.Room.{room_rules}
+use Rattle.fed_room.specs.Start.{start_fault_of}
+use Rattle.fed_room.specs.declared.start_fault.StartFault.{StartFault}
+use Rattle.fed_room.specs.declared.start_fault.StartFault.TheVariants as start
+use Rattle.fed_room.specs.declared.started_fault.StartedFault.{StartedFault}
+use Rattle.fed_room.specs.declared.started_fault.StartedFault.TheVariants as started
+use Rattle.fed_sim.specs.declared.setup.RoomSetup.{RoomSetup}
+use Rattle.fed_sim.specs.declared.setup.SimFault.TheVariants.{BadSetup}
+use Rattle.fed_sim.specs.Hosted.{HostedState}
+use Rattle.fed_sim.specs.NewServer.{IsNewServer}
+use Rattle.fed_sim.specs.Offering.{signer_named}
+use Rattle.fed_sim.specs.Running.{StartsWith, IsBegun, IsBeginning, HasNoStart}
+use Rattle.fed_sim.specs.Server.{ServerState}
+use Rattle.fed_sim.specs.Setup.{id_of, users_of, sim_fault_of_started, sim_fault_of_start}
+use Rattle.fed_sim.proofs.Between.{same_some}
+
+-- want of memory is no bad setup
+not_memory_started : (fault : StartedFault) → sim_fault_of_started fault ≡ BadSetup → fault ≢ started.Memory
+not_memory_started started.Memory bad same = absurd (cc)
+not_memory_started started.NoUser bad same = absurd (cc)
+not_memory_started (started.NoKeys place) bad same = absurd (cc)
+not_memory_started (started.Bad fault) bad same = absurd (cc)
+
+not_memory_start : (fault : StartFault) → sim_fault_of_start fault ≡ BadSetup → fault ≢ start.Memory
+not_memory_start start.Memory bad same = absurd (cc)
+not_memory_start start.Empty bad same = absurd (cc)
+not_memory_start start.NotCreate bad same = absurd (cc)
+not_memory_start start.Version bad same = absurd (cc)
+not_memory_start (start.NotAccepted place receipt) bad same = absurd (cc)
+
+-- a room of which no events are made
+pub none_made : (names : List (List ℕ)) (setups : List RoomSetup) (place : ℕ) (setup : RoomSetup) (fault : StartedFault) → slice_get setups place ≡ Some setup
+    → (fault ≢ started.Memory → started_of signer_named names (id_of setup) (users_of setup) ≡ Err fault) → sim_fault_of_started fault ≡ BadSetup → HasNoStart names setups
+none_made names setups place setup fault here fails bad = record {
+  place = place;
+  setup = setup;
+  setup_is = here;
+  none = λ events starts. let made = starts.made in let failed = fails (not_memory_started fault bad) in cc;
+}
+
+-- a room whose events are not all accepted
+pub none_accepted : (names : List (List ℕ)) (setups : List RoomSetup) (place : ℕ) (setup : RoomSetup) (made : List CheckedEvent) (fault : StartFault) → slice_get setups place ≡ Some setup
+    → started_of signer_named names (id_of setup) (users_of setup) ≡ Ok made → (fault ≢ start.Memory → start_fault_of room_rules made ≡ Some fault) → sim_fault_of_start fault ≡ BadSetup
+    → HasNoStart names setups
+none_accepted names setups place setup made fault here are fails bad = record {
+  place = place;
+  setup = setup;
+  setup_is = here;
+  none = λ events starts.
+      let same : events ≡ made = let is = starts.made in cc in
+      let passes = subst (λ es. start_fault_of room_rules es ≡ None) same starts.accepted in
+      let failed = fails (not_memory_start fault bad) in
+      cc;
+}
+
+-- a new server whose rooms have begun at a server of its name
+pub is_beginning : (names known : List (List ℕ)) (setups : List RoomSetup) (place : ℕ) (s : ServerState) (hosted : List HostedState) (own : List ℕ) → length hosted ≡ length setups
+    → IsNewServer names known place hosted s → slice_get names place ≡ Some own
+    → ((k : ℕ) (h : HostedState) → slice_get hosted k ≡ Some h → (setup : RoomSetup) → slice_get setups k ≡ Some setup → IsBegun names own setup h)
+    → IsBeginning names known setups place s
+is_beginning names known setups place s hosted own count new named begun = record {
+  hosted = hosted;
+  count = count;
+  new = new;
+  begun = λ k h there setup is. subst (λ name. IsBegun names name setup h) (same_some own new.name (sym named ∙ new.name_is)) (begun k h there setup is);
+}
