@@ -25,8 +25,7 @@ use Rattle.fed_journal.specs.Offered.{entry_of, load_of}
 use Rattle.fed_journal.specs.Offering.{open_among}
 use Rattle.fed_sim.specs.Way.{WayState, with_parcel, ways_of}
 use Rattle.fed_sim.specs.Sending.{parcels_for, pushed_from}
-use Rattle.fed_sim.specs.Ways.{ways_beyond}
-use Rattle.fed_sim.proofs.Offers.{ways_from, ways_one}
+use Rattle.fed_sim.proofs.Offers.{ways_from}
 
 -- one of them changes, and not in what is seen of it
 pub same_seen : {A B : Type 0} (f : A → B) (xs : List A) (i : ℕ) (y d : A) → f y ≡ f (get_or xs i d) → map f (set xs i y) ≡ map f xs

@@ -1,9 +1,8 @@
 -- The steps of a journal at a server of a world, case by case.
-use Rattle.std.proofs.Common.{◌≡◌, ◌≢◌, ℕ, zero, suc, ◌+◌, ◌<◌, ◌==◌, ◌&&◌, Bool, true, false, not, nat_lt, List, [], ◌∷◌, ◌++◌, length, set, All, Option, Some, None, Ok, Err, refl, sym, ap, ◌∙◌, subst, if◌then◌else◌}
+use Rattle.std.proofs.Common.{◌≡◌, ◌≢◌, ℕ, zero, suc, ◌+◌, ◌&&◌, Bool, true, false, not, nat_lt, List, [], ◌∷◌, ◌++◌, length, set, Some, None, Ok, Err, refl, sym, ap, ◌∙◌, subst, if◌then◌else◌}
 use Rattle.std.specs.List.{slice_get}
-use Rattle.std.specs.Option.{option_to_list}
 use Rattle.std.proofs.lemmas.List.{append-nil}
-use Rattle.std.proofs.lemmas.Option.{none-some, same_Some, slice_get_within}
+use Rattle.std.proofs.lemmas.Option.{same_Some, slice_get_within}
 use Rattle.std.proofs.lemmas.Bool.{eq-eqb, ne_eqb, lt-ltb}
 use Rattle.serde_json.specs.Data.{Data}
 use Rattle.fed_room_contract.specs.declared.refusal.Refusal.{Refusal}
@@ -21,14 +20,14 @@ use Rattle.fed_journal.specs.Edu.{edu_fault_of}
 use Rattle.fed_journal.specs.Journal.{is_closed, events_of, edus_of}
 use Rattle.fed_journal.specs.Offering.{open_among, has_place, AreLost, event_not_made, event_has_no_place, event_sent, edu_faulty, edu_has_no_place, edu_sent, was_closed, close_has_no_place, is_closed_now}
 use Rattle.fed_journal.specs.Offering as step
-use Rattle.fed_journal.specs.Queues.{parcel_after, placed_beyond, queue_after}
+use Rattle.fed_journal.specs.Queues.{placed_beyond, queue_after}
 use Rattle.fed_journal.proofs.Placing.{parcels_beyond, nothing_beyond, none_lost}
 use Rattle.fed_outbox.specs.Collecting.{Way}
 use Rattle.fed_sim.specs.declared.outcome.EduRefusal.TheVariants as edu
 use Rattle.fed_sim.specs.declared.outcome.SendRefusal.TheVariants.{NotMade, Limit}
 use Rattle.fed_sim.specs.declared.outcome.Outcome.{Outcome}
 use Rattle.fed_sim.specs.declared.outcome.Outcome.TheVariants.{NoSuchServer, Sent, NotSent, EduSent, EduNotSent, Closed, WasClosed, NotClosed}
-use Rattle.fed_sim.specs.Offering.{signer_named, with_journal, with_stored, event_outcome, edu_outcome, close_outcome, others_among, IsOfferedAt, in_room, IsEduOffered, for_others, IsClosedFor, no_way, on_way}
+use Rattle.fed_sim.specs.Offering.{signer_named, with_journal, with_stored, others_among, IsOfferedAt, in_room, IsEduOffered, for_others, IsClosedFor, no_way, on_way}
 use Rattle.fed_sim.specs.Server.{ServerState}
 use Rattle.fed_sim.specs.Ways.{has_way, way_to, ways_beyond}
 

@@ -1,5 +1,5 @@
 -- Rooms that start, and rooms that do not.
-use Rattle.std.proofs.Common.{◌≡◌, ◌≢◌, ℕ, List, length, Some, None, Ok, Err, sym, ap, subst, ◌∙◌}
+use Rattle.std.proofs.Common.{◌≡◌, ◌≢◌, ℕ, List, length, Some, None, Ok, Err, sym, subst, ◌∙◌}
 use Rattle.std.specs.Prelude.{slice_get}
 use Rattle.fed_event.specs.Checked.{CheckedEvent}
 use Rattle.fed_room.specs.Creation.{started_of}
@@ -14,7 +14,7 @@ use Rattle.fed_sim.specs.declared.setup.SimFault.TheVariants.{BadSetup}
 use Rattle.fed_sim.specs.Hosted.{HostedState}
 use Rattle.fed_sim.specs.NewServer.{IsNewServer}
 use Rattle.fed_sim.specs.Offering.{signer_named}
-use Rattle.fed_sim.specs.Running.{StartsWith, IsBegun, IsBeginning, HasNoStart}
+use Rattle.fed_sim.specs.Running.{IsBegun, IsBeginning, HasNoStart}
 use Rattle.fed_sim.specs.Server.{ServerState}
 use Rattle.fed_sim.specs.Setup.{id_of, users_of, sim_fault_of_started, sim_fault_of_start}
 use Rattle.fed_sim.proofs.Between.{same_some}

@@ -1,31 +1,27 @@
 -- The events that a server has offered stay in its rooms, and so do the servers that they go to.
-use Rattle.std.proofs.Common.{◌≡◌, ◌≢◌, ℕ, zero, suc, ◌<◌, Bool, true, false, ◌||◌, List, [], ◌∷◌, ◌++◌, length, set, map, replicate, Option, Some, None, Result, Ok, Err, refl, sym, ap, ◌∙◌, subst, ◌⊎◌, inl, inr, if◌then◌else◌}
+use Rattle.std.proofs.Common.{◌≡◌, ◌≢◌, ℕ, zero, suc, Bool, true, false, ◌||◌, List, [], ◌∷◌, ◌++◌, set, replicate, Option, Some, None, Ok, Err, refl, sym, ap, ◌∙◌, subst, ◌⊎◌, inl, inr, if◌then◌else◌}
 use Rattle.std.specs.List.{slice_get}
-use Rattle.std.specs.Option.{option_map}
-use Rattle.std.specs.Str.{bytes_eq}
 use Rattle.std.proofs.lemmas.Bool.{cases_eq}
-use Rattle.std.proofs.lemmas.Option.{none-some, same_Some, slice_get-map, slice_get_within}
+use Rattle.std.proofs.lemmas.Option.{none-some, same_Some, slice_get_within}
 use Rattle.std.proofs.lemmas.Slice.Eq.{bytes_eq-Decides}
 use Rattle.serde_json.specs.Data.{Data}
 use Rattle.fed_event.specs.declared.fault.PduFault.{PduFault}
 use Rattle.fed_event.specs.Checked.{CheckedEvent, checked_of}
 use Rattle.fed_event.specs.Tests.{first_fault_of}
-use Rattle.fed_room_contract.specs.declared.applying.Applied.{Applied}
 use Rattle.fed_room_contract.specs.declared.graph.Stored.{Stored}
 use Rattle.fed_room_contract.specs.declared.input.Input.{Input}
 use Rattle.fed_room_contract.specs.declared.input.Input.TheVariants.{Receive, Advance, Commit}
-use Rattle.fed_room_contract.specs.declared.refusal.Refusal.{Refusal}
 use Rattle.fed_room_contract.specs.declared.refusal.Refusal.TheVariants.{NotOwnUser}
 use Rattle.fed_room_contract.specs.declared.verdict.Verdict.{Verdict}
 use Rattle.fed_room_contract.specs.declared.verdict.Verdict.TheVariants.{Accepted, Rejected, SoftFailed}
 use Rattle.fed_room_contract.specs.Draft.{DraftFields}
 use Rattle.fed_room_contract.specs.Graph.{IsGraph, id_of, has_id, is_stored, is_ready}
-use Rattle.fed_room_contract.specs.Prepared.{PreparedEvent, Signer, is_own_user, sealed_by, if_accepted, if_allowed, if_event, if_sealed, prepared_of}
-use Rattle.fed_room_contract.specs.Room.{Rules, RoomState, event_id, committed, with_stored, empty_room}
-use Rattle.fed_room_contract.specs.Runs.{after_input, room_after, IsAcceptable, AllMayBeGiven, IsRoom}
+use Rattle.fed_room_contract.specs.Prepared.{PreparedEvent, Signer, is_own_user, sealed_by, if_accepted, if_event, if_sealed, prepared_of}
+use Rattle.fed_room_contract.specs.Room.{RoomState, event_id, committed, with_stored}
+use Rattle.fed_room_contract.specs.Runs.{after_input, room_after, AllMayBeGiven, IsRoom}
 use Rattle.fed_room_contract.proofs.Graphs.{is_stored-++, ready_stays}
 use Rattle.fed_room_contract.proofs.Rooms.{room_grows, room_after-++}
-use Rattle.fed_room_contract.proofs.WellFormed.{new_room, inputs_keep}
+use Rattle.fed_room_contract.proofs.WellFormed.{inputs_keep}
 use Rattle.fed_room.specs.Room.{room_rules}
 use Rattle.fed_room.specs.RoomLawful.{room_lawful}
 use Rattle.fed_dest.specs.Joined.{AreDestinations}

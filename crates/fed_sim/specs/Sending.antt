@@ -1,8 +1,6 @@
 -- How parcels get on their ways.
 use Rattle.std.specs.Prelude.{◌≡◌, ◌≤◌, ◌+◌, ◌==◌, ℕ, Bool, List, [], ◌∷◌, ◌++◌, filter, length, Option, Some, None, slice_get, if◌then◌else◌}
-use Rattle.std.specs.Option.{option_map}
 use Rattle.fed_journal.specs.declared.entry.Entry.{Entry}
-use Rattle.fed_journal.specs.declared.parcel.Load.{Load}
 use Rattle.fed_journal.specs.declared.parcel.Parcel.{Parcel}
 use Rattle.fed_outbox.specs.Collecting.{Way}
 use Rattle.fed_sim.specs.Way.{WayState}

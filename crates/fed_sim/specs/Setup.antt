@@ -1,5 +1,5 @@
 -- What a world begins with, and why there is no world.
-use Rattle.std.specs.Prelude.{◌≡◌, ℕ, ◌++◌, ◌∷◌, [], ◌&&◌, ◌||◌, not, nat_le, is_none, is_some, Bool, true, false, List, length, map, bytes_eq, String, string_bytes, Option, Some, None, if◌then◌else◌}
+use Rattle.std.specs.Prelude.{ℕ, ◌++◌, ◌∷◌, [], ◌&&◌, ◌||◌, not, nat_le, is_none, Bool, true, false, List, length, map, bytes_eq, String, string_bytes, Option, Some, None, if◌then◌else◌}
 use Rattle.std.specs.List.{list_any, list_all}
 use Rattle.std.specs.declared.alloc.Global.{Global}
 use Rattle.fed_event.specs.Ids.{domain_of, is_id_text, is_user_id}

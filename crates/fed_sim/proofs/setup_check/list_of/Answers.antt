@@ -1,4 +1,4 @@
-use Rattle.std.proofs.Common.{rules, IfOk, get_or, sym, ap, ◌∙◌, subst}
+use Rattle.std.proofs.Common.{rules, get_or, sym, ap, ◌∙◌, subst}
 use Rattle.std.specs.List.Sorted.{IsPermutation}
 use Rattle.std.proofs.lemmas.List.{take_all}
 use Rattle.fed_sim.proofs.Built.{pushed}
