@@ -21,4 +21,5 @@ pub mod Orders
 pub mod Sets
 pub mod Auths
 pub mod Mainlines
+pub mod Reached
 pub mod Orderings

@@ -1,13 +1,14 @@
 // What holds of all resolved states.
-ghost use Rattle.std.specs.Prelude.{◌≡◌, ◌<◌, ◌⊎◌, ℕ, List, [], ◌∷◌, ◌++◌, Option, Some, All, length};
+ghost use Rattle.std.specs.Prelude.{◌≡◌, ◌<◌, ◌⊎◌, ℕ, List, [], ◌∷◌, ◌++◌, Option, Some, All, IfSome, length};
 ghost use Rattle.std.specs.FinMap as finite;
 ghost use Rattle.fed_room_contract.specs.declared.graph.Stored.{Stored};
 ghost use Rattle.fed_room_contract.specs.Graph.{IsGraph};
 ghost use Rattle.fed_room_contract.specs.Lawful.{NamesStored};
 ghost use Rattle.fed_resolve.specs.Chain.{IsChainTest};
+ghost use Rattle.fed_resolve.specs.Mainline.{mainline, position_of};
 ghost use Rattle.fed_resolve.specs.Resolution.{resolved_of};
 ghost use Rattle.fed_resolve.specs.Conflict.{unconflicted};
-ghost use Rattle.fed_resolve.specs.Laws.{AllNameStored, SomeStateHas, IsOfConflict, AreSameStates, IsPowerOrder, IsMainlineOrder};
+ghost use Rattle.fed_resolve.specs.Laws.{AllNameStored, SomeStateHas, IsOfConflict, AreSameStates, IsMainline, IsPosition, IsPowerOrder, IsMainlineOrder};
 ghost use Rattle.fed_room_contract.specs.State.{StateKey, StateMap};
 
 /// No states resolve to the state in which nothing holds.
@@ -19,6 +20,14 @@ pub fn no_states_are_empty()
 /// chain of another one where it is an auth event of that one, or in the chain of one.
 pub fn chain_test_is_exact()
     ensures { (events : List Stored) → IsGraph events → IsChainTest events }
+{}
+
+/// The mainline of a power levels event is it, the power levels event among its auth events, and so on, to one that has none; and the
+/// position of an event in a mainline is the least index that is reached from it in one or more such steps, and infinite where none is.
+pub fn mainlines_are_exact()
+    ensures line { (events : List Stored) (levels : Option ℕ) → IsGraph events → IfSome levels (λ place. place < length events)
+        → IsMainline events levels (mainline events levels) }
+    ensures position { (events : List Stored) (line : List ℕ) (place : ℕ) → IsGraph events → IsPosition events line place (position_of events line place) }
 {}
 
 /// A key at which all states have the same event keeps it: the resolved state has there what the unconflicted state has.
@@ -52,8 +61,8 @@ pub fn states_in_any_order()
     ensures { (events : List Stored) (states others : List StateMap) → AreSameStates states others → resolved_of events states ≡ resolved_of events others }
 {}
 
-/// The two lists by which events are checked are orders: each has the given places, each of them once, and each place is ready where it is
-/// listed and comes first among those that are ready and not listed before it. The power order is one in a graph.
+/// The two lists by which events are checked are orders: each has the given places, each of them once, and each place may be listed
+/// where it stands and comes first among those that may be listed there and are not listed before it. The power order is one in a graph.
 pub fn lists_are_orders()
     ensures power { (events : List Stored) (places : List ℕ) → IsGraph events → All (λ place. place < length events) places → IsPowerOrder events places }
     ensures mainline { (events : List Stored) (levels : Option ℕ) (places : List ℕ) → All (λ place. place < length events) places → IsMainlineOrder events levels places }

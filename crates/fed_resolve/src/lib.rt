@@ -33,8 +33,8 @@ pub use conflict::{agreed, full_chain, unconflicted};
 pub use difference::full_conflicted;
 pub use laws::{
     agreed_keys_stay, chain_test_is_exact, entries_come_from_the_states,
-    later_events_change_nothing, lists_are_orders, no_states_are_empty, one_state_stays,
-    resolved_states_name_stored_events, states_in_any_order,
+    later_events_change_nothing, lists_are_orders, mainlines_are_exact, no_states_are_empty,
+    one_state_stays, resolved_states_name_stored_events, states_in_any_order,
 };
 pub use mainline::mainline_order;
 pub use places::members;
