@@ -4,6 +4,8 @@ pub mod Laid
 pub mod Arrays
 pub mod AtPlaces
 pub mod Tips
+pub mod ByDepth
+pub mod AfterEvents
 pub mod Kept
 pub mod KeysOf
 pub mod StartedRooms

@@ -1,5 +1,5 @@
 -- What is sealed of a draft.
-use Rattle.std.proofs.Common.{◌≡◌, ◌<◌, ◌≤◌, ℕ, List, [], ◌∷◌, ◌++◌, map, max, Bool, true, false, ◌&&◌, cond, if◌then◌else◌, Ordering, Less, Equal, Greater, nat_cmp, find, Option, Some, None, Result, Ok, Err, ◌⊎◌, inl, inr, arith, codes, refl, sym, ap, ◌∙◌, subst}
+use Rattle.std.proofs.Common.{◌≡◌, ◌<◌, ◌≤◌, ℕ, ℤ, pos, negsuc, unwrap_or, List, [], ◌∷◌, ◌++◌, map, max, Bool, true, false, ◌&&◌, cond, if◌then◌else◌, Ordering, Less, Equal, Greater, nat_cmp, find, Option, Some, None, Result, Ok, Err, ◌⊎◌, inl, inr, arith, codes, refl, sym, ap, ◌∙◌, subst}
 use Rattle.std.proofs.Math.Nat.{le_trans, le-max_left, le-max_right}
 use Rattle.std.proofs.lemmas.Bool.{lt-ltb}
 use Rattle.std.proofs.lemmas.Slice.Eq.{bytes_eq-Decides}
@@ -7,12 +7,12 @@ use Rattle.std.specs.List.{list_all}
 use Rattle.std.specs.Ordering.{match_ordering}
 use Rattle.std.specs.Cmp.Lexicographic.{slice_cmp}
 use Rattle.serde_json.specs.Data.{Data, null, boolean, number, string, array, object, Members, no_members, member, depth, members_depth}
-use Rattle.serde_json.specs.Find.{get, get_member}
+use Rattle.serde_json.specs.Find.{get, get_member, of_integer}
 use Rattle.serde_json.specs.View.{items_of}
 use Rattle.fed_json.specs.Editing.{with_member}
-use Rattle.fed_json.specs.JsonRef.{list_of}
+use Rattle.fed_json.specs.JsonRef.{list_of, as_whole}
 use Rattle.fed_json.proofs.Parts.{list_of-items_of}
-use Rattle.fed_event.specs.Fields.{text_in, prev_events_of, auth_events_of}
+use Rattle.fed_event.specs.Fields.{text_in, prev_events_of, auth_events_of, depth_of}
 use Rattle.fed_event.specs.declared.field.Field.TheVariants.{Event}
 use Rattle.fed_event.specs.declared.fault.PduFault.{PduFault}
 use Rattle.fed_event.specs.declared.fault.PduFault.TheVariants as fault
@@ -59,6 +59,20 @@ text_ids (id ∷ ids) = ap (λ xs. id ∷ xs) (text_ids ids)
 texts-back : (ids : List (List ℕ)) → map text_in (list_of (items_of (map (λ id. string id) ids))) ≡ ids
 texts-back ids = ap (map text_in) (list_of-items_of (map (λ id. string id) ids)) ∙ text_ids ids
 
+-- ---- the number of a depth
+
+-- from -(2^53) + 1 to 2^53 - 1, of which the upper bound matters
+abbrev pub InRange : ℤ → Type 0
+InRange (pos n) = n ≤ 9007199254740991
+InRange (negsuc n) = Unit {0}
+
+abbrev read_back : ℤ → ℤ
+read_back depth = unwrap_or (as_whole (number (of_integer depth))) (pos 0)
+
+read-back : (depth : ℤ) → InRange depth → read_back depth ≡ depth
+read-back (pos n) h = whole n h
+read-back (negsuc n) h = refl
+
 -- ---- a draft that nests too deep
 
 module _ (server key : List ℕ) (sign : List ℕ → List ℕ) (links : EventLinks) (draft : DraftFields) where
@@ -76,6 +90,10 @@ module _ (server key : List ℕ) (sign : List ℕ → List ℕ) (links : EventLi
   auth-sealed : (state_key : Option (List ℕ)) → auth_events_of (sealed state_key) ≡ links.auth_events
   auth-sealed None = texts-back links.auth_events
   auth-sealed (Some k) = texts-back links.auth_events
+
+  depth-part : (state_key : Option (List ℕ)) → depth_of (sealed state_key) ≡ read_back links.depth
+  depth-part None = refl
+  depth-part (Some k) = refl
 
 sent_by : (server : List ℕ) (links : EventLinks) (draft : DraftFields) (state_key : Option (List ℕ)) → domain_of draft.sender ≡ server → IsSentBy server (with_state_key state_key (fields_of links draft))
 sent_by server links draft None h = h
@@ -156,6 +174,9 @@ module _ (server key : List ℕ) (sign : List ℕ → List ℕ) (links : EventLi
 
   pub auth_events-sealed : auth_events_of event ≡ links.auth_events
   auth_events-sealed = ap auth_events_of whole-event ∙ auth-sealed server key sign links draft draft.state_key
+
+pub depth-sealed : (server key : List ℕ) (sign : List ℕ → List ℕ) (links : EventLinks) (draft : DraftFields) → InRange links.depth → depth_of (sealed_of server key sign (parts_of links draft)) ≡ links.depth
+depth-sealed server key sign links draft range = depth-part server key sign links draft draft.state_key ∙ read-back links.depth range
 
 -- ---- it has the fields of the draft
 

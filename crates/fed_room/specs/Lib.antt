@@ -16,3 +16,4 @@ pub mod StartedFault
 pub mod Line
 pub mod LineParts
 pub mod Creation
+pub mod Laws

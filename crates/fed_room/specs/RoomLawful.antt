@@ -25,7 +25,7 @@ use Rattle.fed_room.specs.Room.{room_rules}
 
 -- ---- lists
 
-map_alike : {X : Type 0} (f g : List ℕ → X) (p : List ℕ → Bool) → ((id : List ℕ) → p id ≡ true → f id ≡ g id) → (ids : List (List ℕ)) → list_all p ids ≡ true → map f ids ≡ map g ids
+pub map_alike : {X : Type 0} (f g : List ℕ → X) (p : List ℕ → Bool) → ((id : List ℕ) → p id ≡ true → f id ≡ g id) → (ids : List (List ℕ)) → list_all p ids ≡ true → map f ids ≡ map g ids
 map_alike f g p same [] h = refl
 map_alike f g p same (id ∷ ids) h = by (p id) refl h (map_alike f g p same ids)
   where
@@ -55,7 +55,7 @@ or_right : (a : Bool) {b : Bool} → b ≡ true → (a || b) ≡ true
 or_right true h = refl
 or_right false h = h
 
-found_stored : (events : List Stored) (id : List ℕ) (stored : Stored) → stored_at events id ≡ Some stored → is_stored events (id_of stored) ≡ true
+pub found_stored : (events : List Stored) (id : List ℕ) (stored : Stored) → stored_at events id ≡ Some stored → is_stored events (id_of stored) ≡ true
 found_stored [] id stored h = absurd (cc)
 found_stored (x ∷ events) id stored h = by (has_id id x) h (found_stored events id stored)
   where
@@ -71,7 +71,7 @@ in_middle events front x back e = ap (λ (es : List Stored). is_stored es (id_of
     by (y ∷ front) = or_right (has_id (id_of x) y) (by front)
 
 -- an event of that id stands somewhere
-standing : (events : List Stored) (id : List ℕ) → is_stored events id ≡ true
+pub standing : (events : List Stored) (id : List ℕ) → is_stored events id ≡ true
     → (stored : Stored) × ((before : List Stored) × ((after : List Stored) × ((stored_at events id ≡ Some stored) × (events ≡ before ++ stored ∷ after))))
 standing [] id h = absurd (true≢false (sym h))
 standing (x ∷ events) id h = by (has_id id x) h (standing events id)

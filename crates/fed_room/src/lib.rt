@@ -15,7 +15,7 @@
 //! - `table`: `Table`, verdicts on events and the states before them
 //! - `entries`: a state of some entries
 //! - `table_room`: `TableRoom`, a room that goes by a table
-//! - `laws`: what holds of all rooms that begin with some events
+//! - `laws`: what holds of states, of new events and of all rooms that begin with some events
 #![tactic(auto)]
 
 mod creation;
@@ -36,7 +36,7 @@ mod table;
 mod table_room;
 
 pub use creation::started;
-pub use laws::a_started_room_and_its_inputs;
+pub use laws::{a_started_room_and_its_inputs, states_follow_the_events, what_a_new_event_names};
 pub use room::Room;
 pub use start_fault::StartFault;
 pub use started_fault::StartedFault;
