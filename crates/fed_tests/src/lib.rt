@@ -7,6 +7,7 @@
 //! - `replies`: a store of replies
 //! - `requests`: requests on their whole way: signed, written, read and answered; copies, and replies that go out
 //! - `servers`: copies of lists and sets of servers
+//! - `rooms`: why no room begins, as texts
 //! - `worlds`: worlds by what others see of them, and setups that no world begins with
 //! - `runs`: runs over readers and writers that give and take little, fail, or never end
 #![tactic(auto)]
@@ -19,6 +20,8 @@ mod inboxes;
 mod replies;
 #[cfg(test)]
 mod requests;
+#[cfg(test)]
+mod rooms;
 #[cfg(test)]
 mod runs;
 #[cfg(test)]
