@@ -8,11 +8,10 @@ use Rattle.serde_json.specs.Data.{Data}
 use Rattle.fed_event.specs.Tests.{holds}
 use Rattle.fed_event.specs.Fields.{auth_events_of, kind_of, room_id_of, state_key_of}
 use Rattle.fed_room_contract.specs.declared.rule.Rule.{Rule}
-use Rattle.fed_room_contract.specs.declared.verdict.Verdict.{Verdict}
-use Rattle.fed_room_contract.specs.declared.verdict.Verdict.TheVariants.{Accepted, Rejected, SoftFailed}
 use Rattle.fed_room_contract.specs.declared.graph.Stored.{Stored}
 use Rattle.fed_room_contract.specs.State.{StateMap, entry_at, with_entry}
 use Rattle.fed_room_contract.specs.Graph.{id_of, stored_at}
+use Rattle.fed_room_contract.specs.Room.{is_rejection}
 use Rattle.fed_auth.specs.Table.{Row, rule, reject, decide}
 use Rattle.fed_auth.specs.Selection.{selector_of, is_selected}
 
@@ -42,11 +41,6 @@ stands_at kind key auth = bytes_eq kind (kind_in auth) && option_eq bytes_eq (So
 -- an event without a state key is never selected
 unfoldable pub is_outside_selection : Data → Stored → Bool
 is_outside_selection event auth = not (holds (is_selected (selector_of event) (kind_in auth)) (state_key_in auth))
-
-abbrev pub is_rejection : Verdict → Bool
-is_rejection Accepted = false
-is_rejection (Rejected rule) = true
-is_rejection (SoftFailed rule) = false
 
 abbrev pub is_rejected : Stored → Bool
 is_rejected auth = is_rejection auth.verdict

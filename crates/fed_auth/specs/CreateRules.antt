@@ -7,6 +7,7 @@ use Rattle.fed_event.specs.Ids.{domain_of}
 use Rattle.fed_event.specs.Fields.{content_of, prev_events_of, room_id_of, sender_of}
 use Rattle.fed_event.specs.EventId.{event_id_of}
 use Rattle.fed_auth.specs.Table.{Row, rule, allow, reject}
+use Rattle.fed_auth.specs.Version.{is_known_version}
 
 abbrev pub are_of_one_server : List ℕ → List ℕ → Bool
 are_of_one_server one other = bytes_eq (domain_of one) (domain_of other)
@@ -17,12 +18,12 @@ has_prev_events event = not (length (prev_events_of event) == 0)
 unfoldable pub is_of_other_server : Data → Bool
 is_of_other_server event = not (are_of_one_server (room_id_of event) (sender_of event))
 
--- the room has a version, and it is not 10
-abbrev pub is_version_10 : Data → Bool
-is_version_10 value = holds (bytes_eq (codes "10")) (as_str value)
+abbrev pub names_known_version : Data → Bool
+names_known_version value = holds is_known_version (as_str value)
 
+-- the room has a version, and it is not known
 unfoldable pub has_other_version : Data → Bool
-has_other_version event = holds (λ value. not (is_version_10 value)) (get (codes "room_version") (content_of event))
+has_other_version event = holds (λ value. not (names_known_version value)) (get (codes "room_version") (content_of event))
 
 unfoldable pub lacks_creator : Data → Bool
 lacks_creator event = is_none (get (codes "creator") (content_of event))

@@ -4,6 +4,7 @@ pub mod Levels
 pub mod LevelChange
 pub mod Table
 pub mod MemberRules
+pub mod Version
 pub mod CreateRules
 pub mod PowerRules
 pub mod EventRules

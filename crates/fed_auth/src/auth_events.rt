@@ -5,13 +5,13 @@ ghost use Rattle.std.specs.FinMap as finite;
 ghost use Rattle.fed_event.specs.Fields.{auth_events_of, kind_of};
 ghost use Rattle.fed_room_contract.specs.declared.rule.Rule.{Rule};
 ghost use Rattle.fed_auth.specs.Table.{decide};
-ghost use Rattle.fed_auth.specs.AuthState.{stored_of, stands_at, are_alike, has_double, is_outside_selection, is_rejected, is_create, is_of_other_room, auth_table, with_stored, with_all, auth_state_of};
+ghost use Rattle.fed_auth.specs.AuthState.{stored_of, stands_at, are_alike, has_double, is_outside_selection, is_create, is_of_other_room, auth_table, with_stored, with_all, auth_state_of};
 ghost use Rattle.fed_auth.specs.AuthEvents.{events_left};
 
 use crate::selector::Selector;
 use fed_event::{EventIds, Pdu};
 use fed_json::NoMemory;
-use fed_room_contract::{Graph, Rule, State, Stored, Verdict};
+use fed_room_contract::{Graph, Rule, State, Stored};
 use std::alloc::Global;
 
 /// The state that the auth events of an event make (room version 10, "Authorization rules", rule 2), or the rule that rejects the
@@ -190,7 +190,7 @@ impl AuthFacts {
         };
         for auth in events {
             facts.is_outside_selection |= is_outside_selection(event, auth);
-            facts.is_rejected |= is_rejected(auth);
+            facts.is_rejected |= auth.verdict.is_rejected();
             facts.is_create |= is_create(auth);
             facts.is_of_other_room |= is_of_other_room(event, auth);
         }
@@ -208,13 +208,6 @@ fn is_outside_selection(event: &Pdu, auth: &Stored) -> bool
         Some(state_key) => !Selector::from(event).selects(auth.kind(), state_key),
         None => true,
     }
-}
-
-// 2.3: one that was rejected.
-fn is_rejected(auth: &Stored) -> bool
-    ensures { result ≡ is_rejected auth.now }
-{
-    matches!(auth.verdict, Verdict::Rejected(_))
 }
 
 // 2.4: the create event.

@@ -1,9 +1,12 @@
 // What rule 1 makes of a create event.
 ghost use Rattle.std.specs.Prelude.{◌≡◌, option_map};
+ghost use Rattle.fed_json.specs.JsonRef.{seen};
 ghost use Rattle.fed_auth.specs.Table.{decide};
-ghost use Rattle.fed_auth.specs.CreateRules.{are_of_one_server, has_prev_events, is_of_other_server, has_other_version, lacks_creator, comes_later, create_table};
+ghost use Rattle.fed_auth.specs.CreateRules.{are_of_one_server, has_prev_events, is_of_other_server, names_known_version, has_other_version, lacks_creator, comes_later, create_table};
 
+use crate::version::is_known_version;
 use fed_event::{EventId, Pdu, domain};
+use fed_json::JsonRef;
 use fed_room_contract::Rule;
 
 /// Whether a create event is allowed in a room whose first event has this id, where it has one (rule 1).
@@ -62,7 +65,16 @@ fn has_other_version(event: &Pdu) -> bool
     event
         .content()
         .member("room_version")
-        .is_some_and(|version| version.text() != Some("10"))
+        .is_some_and(|version| !names_known_version(version))
+}
+
+fn names_known_version(version: JsonRef<'_>) -> bool
+    ensures { result ≡ names_known_version (seen version.entry) }
+{
+    match version.text() {
+        Some(version) => is_known_version(version),
+        None => false,
+    }
 }
 
 #[tactic(auto, unfolding(crate::specs::CreateRules::lacks_creator))]

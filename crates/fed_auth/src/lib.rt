@@ -14,6 +14,7 @@
 //! - `level_change`: what a power levels event may change
 //! - `state_view`: what the state of a room says
 //! - `event_rules`: conditions on an event alone
+//! - `version`: which room versions are known
 #![tactic(auto)]
 
 mod auth_events;
@@ -30,6 +31,7 @@ mod power_rules;
 mod rules;
 mod selector;
 mod state_view;
+mod version;
 
 pub use auth_events::{AuthEvents, auth_state, lay_over};
 pub use fed_event::authorising_user;
@@ -40,3 +42,5 @@ pub use levels::Levels;
 pub use membership::Membership;
 pub use rules::allowed;
 pub use selector::{Key, Selector, selection};
+pub use state_view::creator;
+pub use version::{ROOM_VERSION, is_known_version};

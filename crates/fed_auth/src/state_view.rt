@@ -122,8 +122,8 @@ impl<'a> StateView<'a> {
     }
 }
 
-// The creator that a create event names.
-fn creator(create: &Pdu) -> Option<&str>
+/// The creator that a create event names, where it names one.
+pub fn creator(create: &Pdu) -> Option<&str>
     ensures { option_map (λ s. s.now) result ≡ creator_in create.now }
 {
     create.content().member("creator")?.text()

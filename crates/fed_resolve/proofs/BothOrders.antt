@@ -90,7 +90,7 @@ module _ (events : List Stored) where
       weak-by (λ (one other : Placed). mainline_cmp events places one.0 other.0 one.1 other.1) (mainline_total events places) IsPlace (is_before_in_mainline events places) (λ p h. (p, (there p h).0))
       (λ p q h g i. line.before_stored events places p q ((there p h).1 i) ((there q g).1 i))
 
-  -- the least place that is left is ready
+  -- the least place that is left may be listed
   power_goes_on : IsGraph events → (set listed left : List ℕ) → AreListedOrLeft set listed left → All IsPlace left → (p : ℕ) → is_among left p ≡ true
       → (r : ℕ) × ((is_among left r ≡ true) × (has_chain_listed events set listed r ≡ true))
   power_goes_on graph set listed left split all p h = (first.0, (first.1.0, each-among (λ other. not (is_in_chain events first.0 other) || is_among listed other) set each))

@@ -1,4 +1,4 @@
--- Places that are listed, each time the first that is ready: the list is in order.
+-- Places that are listed, each time the first that may be listed: the list is in order.
 use Rattle.std.proofs.Common.{◌≡◌, ◌≢◌, ◌≤◌, ℕ, zero, suc, List, [], ◌∷◌, ◌++◌, append-nil, append_assoc, length, Bool, true, false, true≢false, not, ◌&&◌, ◌||◌, cond, eqb, All, AllPairs, Option, None, Some, IfSome, Ordering, Less, Equal, Greater, refl, sym, ap, ◌∙◌, arith, ◌⊎◌, inl, inr}
 use Rattle.std.proofs.lemmas.Bool.{cases_eq, eq-eqb, eqb-true, ne_eqb, or_left, or_right, or_cases, and_parts, and_from, false_from_ne_true}
 use Rattle.std.proofs.lemmas.List.Elements.{All-head, All-tail, All-filter}
@@ -7,7 +7,7 @@ use Rattle.std.proofs.lemmas.List.Kept.{AllPairs-cons}
 use Rattle.std.specs.List.{filter}
 use Rattle.std.specs.Ordering.{is_lt, is_gt, ordering_reverse}
 use Rattle.std.specs.Cmp.{IsTotalOrder, upto, tied_itself}
-use Rattle.fed_resolve.specs.Order.{Before, IsReady, IsOrder, earlier_of, first_of, without, and_later, listed_from, in_order, is_among}
+use Rattle.fed_resolve.specs.Order.{Before, MayBeListed, IsOrder, earlier_of, first_of, without, and_later, listed_from, in_order, is_among}
 use Rattle.fed_resolve.proofs.Among.{among-at, among-filter, all-among, fewer}
 
 -- ---- the first of some places
@@ -82,12 +82,12 @@ module _ {K : Type 0} (R : K → K → Ordering) (total : IsTotalOrder R) (P : �
 -- ---- the list
 
 -- what is listed of the places that are left, once those are listed
-record IsRest (is_ready : IsReady) (before : Before) (listed left list : List ℕ) : Type 0 where
+record IsRest (may_be_listed : MayBeListed) (before : Before) (listed left list : List ℕ) : Type 0 where
   pub same : (place : ℕ) → is_among list place ≡ is_among left place
   pub once : AllPairs (λ one other. one ≢ other) list
-  pub ready : (front : List ℕ) (place : ℕ) (back : List ℕ) → list ≡ front ++ place ∷ back → is_ready (listed ++ front) place ≡ true
+  pub in_turn : (front : List ℕ) (place : ℕ) (back : List ℕ) → list ≡ front ++ place ∷ back → may_be_listed (listed ++ front) place ≡ true
   pub first : (front : List ℕ) (place : ℕ) (back : List ℕ) (other : ℕ) → list ≡ front ++ place ∷ back → is_among back other ≡ true
-      → is_ready (listed ++ front) other ≡ true → before other place ≡ false
+      → may_be_listed (listed ++ front) other ≡ true → before other place ≡ false
 
 no_split : (front : List ℕ) (place : ℕ) (back : List ℕ) → [] ≡ front ++ place ∷ back → ⊥
 no_split [] place back e = cc
@@ -97,11 +97,11 @@ abbrev tail : List ℕ → List ℕ
 tail [] = []
 tail (x ∷ xs) = xs
 
-rest-none : (is_ready : IsReady) (before : Before) (listed left : List ℕ) → ((q : ℕ) → is_among left q ≡ false) → IsRest is_ready before listed left []
-rest-none is_ready before listed left none = record {
+rest-none : (may_be_listed : MayBeListed) (before : Before) (listed left : List ℕ) → ((q : ℕ) → is_among left q ≡ false) → IsRest may_be_listed before listed left []
+rest-none may_be_listed before listed left none = record {
   same = λ q. sym (none q);
   once = λ i j d less within. absurd (omega arith);
-  ready = λ front place back e. absurd (no_split front place back e);
+  in_turn = λ front place back e. absurd (no_split front place back e);
   first = λ front place back other e h r. absurd (no_split front place back e);
 }
 
@@ -119,9 +119,9 @@ not_left place places = among-without place places place ∙ ap (λ b. is_among 
     none false = refl
 
 -- one place, and the others
-module _ (is_ready : IsReady) (before : Before) (listed left later : List ℕ) (place : ℕ) (among : is_among left place ≡ true) (now : is_ready listed place ≡ true)
-    (none : (q : ℕ) → is_among left q ≡ true → is_ready listed q ≡ true → before q place ≡ false)
-    (rest : IsRest is_ready before (listed ++ place ∷ []) (without place left) later) where
+module _ (may_be_listed : MayBeListed) (before : Before) (listed left later : List ℕ) (place : ℕ) (among : is_among left place ≡ true) (now : may_be_listed listed place ≡ true)
+    (none : (q : ℕ) → is_among left q ≡ true → may_be_listed listed q ≡ true → before q place ≡ false)
+    (rest : IsRest may_be_listed before (listed ++ place ∷ []) (without place left) later) where
   both : (q : ℕ) → (place ≡ q) ⊎ ((place ≡ q) → ⊥) → (eqb place q || (is_among left q && not (eqb q place))) ≡ is_among left q
   both q (inl e) = or_left (eqb place q) (is_among left q && not (eqb q place)) (eq-eqb place q e) ∙ sym (ap (is_among left) (sym e) ∙ among)
   both q (inr n) = (λ i. ne_eqb place q n i || (is_among left q && not (ne_eqb q place (λ e. n (sym e)) i))) ∙ alone (is_among left q)
@@ -136,26 +136,26 @@ module _ (is_ready : IsReady) (before : Before) (listed left later : List ℕ) (
   apart : All (λ other. place ≢ other) later
   apart = λ k d within e. true≢false (sym (among-at later k d within) ∙ ap (is_among later) (sym e) ∙ rest.same place ∙ not_left place left)
 
-  ready-at : (front : List ℕ) (p : ℕ) (back : List ℕ) → place ∷ later ≡ front ++ p ∷ back → is_ready (listed ++ front) p ≡ true
-  ready-at [] p back e = let same : place ≡ p = cc in ap (λ xs. is_ready xs p) (append-nil listed) ∙ ap (is_ready listed) (sym same) ∙ now
-  ready-at (f ∷ front) p back e =
+  in_turn-at : (front : List ℕ) (p : ℕ) (back : List ℕ) → place ∷ later ≡ front ++ p ∷ back → may_be_listed (listed ++ front) p ≡ true
+  in_turn-at [] p back e = let same : place ≡ p = cc in ap (λ xs. may_be_listed xs p) (append-nil listed) ∙ ap (may_be_listed listed) (sym same) ∙ now
+  in_turn-at (f ∷ front) p back e =
       let same : place ≡ f = cc in
-      ap (λ k. is_ready (listed ++ k ∷ front) p) (sym same) ∙ ap (λ xs. is_ready xs p) (sym (append_assoc listed (place ∷ []) front)) ∙ rest.ready front p back (ap tail e)
+      ap (λ k. may_be_listed (listed ++ k ∷ front) p) (sym same) ∙ ap (λ xs. may_be_listed xs p) (sym (append_assoc listed (place ∷ []) front)) ∙ rest.in_turn front p back (ap tail e)
 
-  first-at : (front : List ℕ) (p : ℕ) (back : List ℕ) (other : ℕ) → place ∷ later ≡ front ++ p ∷ back → is_among back other ≡ true → is_ready (listed ++ front) other ≡ true → before other p ≡ false
+  first-at : (front : List ℕ) (p : ℕ) (back : List ℕ) (other : ℕ) → place ∷ later ≡ front ++ p ∷ back → is_among back other ≡ true → may_be_listed (listed ++ front) other ≡ true → before other p ≡ false
   first-at [] p back other e h r =
       let same : place ≡ p = cc in
       let others : later ≡ back = ap tail e in
-      ap (before other) (sym same) ∙ none other (still_left other (ap (λ xs. is_among xs other) others ∙ h)) (ap (λ xs. is_ready xs other) (sym (append-nil listed)) ∙ r)
+      ap (before other) (sym same) ∙ none other (still_left other (ap (λ xs. is_among xs other) others ∙ h)) (ap (λ xs. may_be_listed xs other) (sym (append-nil listed)) ∙ r)
   first-at (f ∷ front) p back other e h r =
       let same : place ≡ f = cc in
-      rest.first front p back other (ap tail e) h (ap (λ xs. is_ready xs other) (append_assoc listed (place ∷ []) front) ∙ ap (λ k. is_ready (listed ++ k ∷ front) other) same ∙ r)
+      rest.first front p back other (ap tail e) h (ap (λ xs. may_be_listed xs other) (append_assoc listed (place ∷ []) front) ∙ ap (λ k. may_be_listed (listed ++ k ∷ front) other) same ∙ r)
 
-  rest-more : IsRest is_ready before listed left (place ∷ later)
+  rest-more : IsRest may_be_listed before listed left (place ∷ later)
   rest-more = record {
     same = λ q. ap (λ b. eqb place q || b) (rest.same q ∙ among-without place left q) ∙ both q (cases_eq place q);
     once = AllPairs-cons (λ one other. one ≢ other) place later apart rest.once;
-    ready = ready-at;
+    in_turn = in_turn-at;
     first = first-at;
   }
 
@@ -163,8 +163,8 @@ module _ (is_ready : IsReady) (before : Before) (listed left later : List ℕ) (
 abbrev pub AreListedOrLeft : List ℕ → List ℕ → List ℕ → Type 0
 AreListedOrLeft set listed left = (q : ℕ) → is_among set q ≡ true → (is_among listed q ≡ true) ⊎ (is_among left q ≡ true)
 
-module _ (is_ready : IsReady) (before : Before) (set : List ℕ) (P : ℕ → Type 0) (weak : IsWeakOrder P before)
-    (goes_on : (listed left : List ℕ) → AreListedOrLeft set listed left → All P left → (p : ℕ) → is_among left p ≡ true → (r : ℕ) × ((is_among left r ≡ true) × (is_ready listed r ≡ true))) where
+module _ (may_be_listed : MayBeListed) (before : Before) (set : List ℕ) (P : ℕ → Type 0) (weak : IsWeakOrder P before)
+    (goes_on : (listed left : List ℕ) → AreListedOrLeft set listed left → All P left → (p : ℕ) → is_among left p ≡ true → (r : ℕ) × ((is_among left r ≡ true) × (may_be_listed listed r ≡ true))) where
   moved : (listed left : List ℕ) (place : ℕ) → AreListedOrLeft set listed left → AreListedOrLeft set (listed ++ place ∷ []) (without place left)
   moved listed left place split q h = by (split q h) (cases_eq place q)
     where
@@ -173,32 +173,32 @@ module _ (is_ready : IsReady) (before : Before) (set : List ℕ) (P : ℕ → Ty
       by (inr t) (inl e) = inl (list_any-append (λ p. eqb p q) listed (place ∷ []) ∙ or_right (is_among listed q) (is_among (place ∷ []) q) (or_left (eqb place q) false (eq-eqb place q e)))
       by (inr t) (inr n) = inr (among-without place left q ∙ and_from (is_among left q) (not (eqb q place)) t (ap not (ne_eqb q place (λ e. n (sym e)))))
 
-  listed-rest : (steps : ℕ) (listed left : List ℕ) → length left ≤ steps → All P left → AreListedOrLeft set listed left → IsRest is_ready before listed left (listed_from is_ready before steps listed left)
-  listed-rest zero listed [] few all split = rest-none is_ready before listed [] (λ q. refl)
+  listed-rest : (steps : ℕ) (listed left : List ℕ) → length left ≤ steps → All P left → AreListedOrLeft set listed left → IsRest may_be_listed before listed left (listed_from may_be_listed before steps listed left)
+  listed-rest zero listed [] few all split = rest-none may_be_listed before listed [] (λ q. refl)
   listed-rest zero listed (x ∷ left) few all split = absurd (omega arith)
   listed-rest (suc steps) listed left few all split =
-      by (first_of before (filter (is_ready listed) left)) refl (first-is P before weak (filter (is_ready listed) left) (All-filter (is_ready listed) P left all))
+      by (first_of before (filter (may_be_listed listed) left)) refl (first-is P before weak (filter (may_be_listed listed) left) (All-filter (may_be_listed listed) P left all))
       (λ place among. listed-rest steps (listed ++ place ∷ []) (without place left) (let less = fewer place left among in omega arith) (All-filter (kept place) P left all) (moved listed left place split))
     where
-      in_ready : (q : ℕ) → is_among left q ≡ true → is_ready listed q ≡ true → is_among (filter (is_ready listed) left) q ≡ true
-      in_ready q h r = among-filter (is_ready listed) left q ∙ and_from (is_among left q) (is_ready listed q) h r
+      in_rest : (q : ℕ) → is_among left q ≡ true → may_be_listed listed q ≡ true → is_among (filter (may_be_listed listed) left) q ≡ true
+      in_rest q h r = among-filter (may_be_listed listed) left q ∙ and_from (is_among left q) (may_be_listed listed q) h r
 
       found : (xs : List ℕ) (q : ℕ) → is_among xs q ≡ true → first_of before xs ≡ None → ⊥
       found [] q h e = true≢false (sym h)
       found (x ∷ xs) q h e = cc
 
-      by : (o : Option ℕ) → first_of before (filter (is_ready listed) left) ≡ o → IfSome o (IsFirst before (filter (is_ready listed) left))
-          → ((place : ℕ) → is_among left place ≡ true → IsRest is_ready before (listed ++ place ∷ []) (without place left) (listed_from is_ready before steps (listed ++ place ∷ []) (without place left)))
-          → IsRest is_ready before listed left (and_later (λ place. listed_from is_ready before steps (listed ++ place ∷ []) (without place left)) o)
+      by : (o : Option ℕ) → first_of before (filter (may_be_listed listed) left) ≡ o → IfSome o (IsFirst before (filter (may_be_listed listed) left))
+          → ((place : ℕ) → is_among left place ≡ true → IsRest may_be_listed before (listed ++ place ∷ []) (without place left) (listed_from may_be_listed before steps (listed ++ place ∷ []) (without place left)))
+          → IsRest may_be_listed before listed left (and_later (λ place. listed_from may_be_listed before steps (listed ++ place ∷ []) (without place left)) o)
       by None e first rest =
-          rest-none is_ready before listed left
-          (λ q. false_from_ne_true (is_among left q) (λ h. let some = goes_on listed left split all q h in found (filter (is_ready listed) left) some.0 (in_ready some.0 some.1.0 some.1.1) e))
+          rest-none may_be_listed before listed left
+          (λ q. false_from_ne_true (is_among left q) (λ h. let some = goes_on listed left split all q h in found (filter (may_be_listed listed) left) some.0 (in_rest some.0 some.1.0 some.1.1) e))
       by (Some place) e first rest =
-          let parts = and_parts (is_among left place) (is_ready listed place) (sym (among-filter (is_ready listed) left place) ∙ first.among) in
-          rest-more is_ready before listed left (listed_from is_ready before steps (listed ++ place ∷ []) (without place left)) place parts.0 parts.1 (λ q h r. first.none q (in_ready q h r)) (rest place parts.0)
+          let parts = and_parts (is_among left place) (may_be_listed listed place) (sym (among-filter (may_be_listed listed) left place) ∙ first.among) in
+          rest-more may_be_listed before listed left (listed_from may_be_listed before steps (listed ++ place ∷ []) (without place left)) place parts.0 parts.1 (λ q h r. first.none q (in_rest q h r)) (rest place parts.0)
 
-  pub order-is : All P set → IsOrder is_ready before set (in_order is_ready before set)
-  order-is all = record { same = whole.same; once = whole.once; ready = whole.ready; first = whole.first }
+  pub order-is : All P set → IsOrder may_be_listed before set (in_order may_be_listed before set)
+  order-is all = record { same = whole.same; once = whole.once; in_turn = whole.in_turn; first = whole.first }
     where
-      whole : IsRest is_ready before [] set (in_order is_ready before set)
+      whole : IsRest may_be_listed before [] set (in_order may_be_listed before set)
       whole = listed-rest (length set) [] set (omega arith) all (λ q h. inr h)

@@ -66,8 +66,8 @@ same-last one other s t a b =
     ∙ ap (λ x. ordering_then (int_cmp (origin_server_ts_of (event_of s)) (origin_server_ts_of (event_of t))) (slice_cmp nat_cmp (id_of s) x)) b.id
 
 module _ (events : List Stored) (set : List ℕ) (cmp : Rank (Reverse Level) → Rank (Reverse Level) → Ordering) (compares : (one other : Rank (Reverse Level)) → cmp one other ≡ power_rank_cmp one other) where
-  power-ready : (one : Candidate (Rank (Reverse Level))) → IsPowerCandidate events set one → (listed : List ℕ) → list_all (is_among listed) one.after.items ≡ has_chain_listed events set listed one.place
-  power-ready one is listed = ap (list_all (is_among listed)) is.after ∙ all-filter listed (is_in_chain events one.place) set
+  power-follows : (one : Candidate (Rank (Reverse Level))) → IsPowerCandidate events set one → (listed : List ℕ) → list_all (is_among listed) one.after.items ≡ has_chain_listed events set listed one.place
+  power-follows one is listed = ap (list_all (is_among listed)) is.after ∙ all-filter listed (is_in_chain events one.place) set
 
   power-first : (one other : Candidate (Rank (Reverse Level))) → IsPowerCandidate events set one → IsPowerCandidate events set other → is_lt (cmp one.rank other.rank) ≡ is_before_in_power events one.place other.place
   power-first one other a b =
@@ -81,11 +81,11 @@ module _ (events : List Stored) (set : List ℕ) (cmp : Rank (Reverse Level) →
 
   pub power-listed : (left : List (Candidate (Rank (Reverse Level)))) → map candidate_place left ≡ set → All (IsPowerCandidate events set) left → candidates_from cmp left (length left) [] ≡ power_order events set
   power-listed left same all =
-      in-order cmp (has_chain_listed events set) (is_before_in_power events) (IsPowerCandidate events set) power-ready power-first left (recursion_from_All (IsPowerCandidate events set) left all) set same
+      in-order cmp (has_chain_listed events set) (is_before_in_power events) (IsPowerCandidate events set) power-follows power-first left (recursion_from_All (IsPowerCandidate events set) left all) set same
 
 module _ (events : List Stored) (line : List ℕ) (cmp : Rank (Option (Reverse ℕ)) → Rank (Option (Reverse ℕ)) → Ordering) (compares : (one other : Rank (Option (Reverse ℕ))) → cmp one other ≡ mainline_rank_cmp one other) where
-  mainline-ready : (one : Candidate (Rank (Option (Reverse ℕ)))) → IsMainlineCandidate events line one → (listed : List ℕ) → list_all (is_among listed) one.after.items ≡ at_once listed one.place
-  mainline-ready one is listed = ap (list_all (is_among listed)) is.after
+  mainline-follows : (one : Candidate (Rank (Option (Reverse ℕ)))) → IsMainlineCandidate events line one → (listed : List ℕ) → list_all (is_among listed) one.after.items ≡ at_once listed one.place
+  mainline-follows one is listed = ap (list_all (is_among listed)) is.after
 
   mainline-first : (one other : Candidate (Rank (Option (Reverse ℕ)))) → IsMainlineCandidate events line one → IsMainlineCandidate events line other → is_lt (cmp one.rank other.rank) ≡ is_before_in_mainline events line one.place other.place
   mainline-first one other a b =
@@ -100,7 +100,7 @@ module _ (events : List Stored) (line : List ℕ) (cmp : Rank (Option (Reverse �
   pub mainline-listed : (levels : Option ℕ) (set : List ℕ) → line ≡ mainline events levels → (left : List (Candidate (Rank (Option (Reverse ℕ))))) → map candidate_place left ≡ set → All (IsMainlineCandidate events line) left
       → candidates_from cmp left (length left) [] ≡ mainline_order events levels set
   mainline-listed levels set whole left same all =
-      in-order cmp at_once (is_before_in_mainline events line) (IsMainlineCandidate events line) mainline-ready mainline-first left (recursion_from_All (IsMainlineCandidate events line) left all) set same
+      in-order cmp at_once (is_before_in_mainline events line) (IsMainlineCandidate events line) mainline-follows mainline-first left (recursion_from_All (IsMainlineCandidate events line) left all) set same
       ∙ ap (λ l. in_order at_once (is_before_in_mainline events l) set) whole
 
 -- ---- all of them are within the graph

@@ -9,10 +9,10 @@ use Rattle.std.specs.Ordering.{is_lt}
 use Rattle.std.proofs.lemmas.List.Elements.{All-from_recursion, recursion_from_All}
 use Rattle.std.specs.declared.cmp.Ordering.{Ordering}
 use Rattle.fed_resolve.specs.declared.order.Candidate.{Candidate}
-use Rattle.fed_resolve.specs.Order.{IsReady, Before, earlier_of, first_of, without, is_among, and_later, listed_from, in_order}
+use Rattle.fed_resolve.specs.Order.{MayBeListed, Before, earlier_of, first_of, without, is_among, and_later, listed_from, in_order}
 use Rattle.fed_resolve.specs.ChainParts.{is_marked}
 use Rattle.fed_resolve.specs.Marks.{AreMarks}
-use Rattle.fed_resolve.specs.OrderParts.{IsWithin, IsListedFront, AreListedFronts, candidate_place, may_follow, earlier_candidate, first_candidate, first_ready, candidates_from}
+use Rattle.fed_resolve.specs.OrderParts.{IsWithin, IsListedFront, AreListedFronts, candidate_place, may_follow, earlier_candidate, first_candidate, next_place, candidates_from}
 use Rattle.fed_resolve.proofs.ChainMarks.{same_by}
 use Rattle.fed_resolve.proofs.Marks.{one_set}
 
@@ -84,7 +84,7 @@ length-places : {R : Type 0} (left : List (Candidate R)) → length left ≡ len
 length-places [] = refl
 length-places (one ∷ left) = ap suc (length-places left)
 
-module _ {R : Type 0} (cmp : R → R → Ordering) (is_ready : IsReady) (before : Before) (Is : Candidate R → Type 0) (readies : (one : Candidate R) → Is one → (listed : List ℕ) → list_all (is_among listed) one.after.items ≡ is_ready listed one.place) (firsts : (one other : Candidate R) → Is one → Is other → is_lt (cmp one.rank other.rank) ≡ before one.place other.place) where
+module _ {R : Type 0} (cmp : R → R → Ordering) (may_be_listed : MayBeListed) (before : Before) (Is : Candidate R → Type 0) (listings : (one : Candidate R) → Is one → (listed : List ℕ) → list_all (is_among listed) one.after.items ≡ may_be_listed listed one.place) (firsts : (one other : Candidate R) → Is one → Is other → is_lt (cmp one.rank other.rank) ≡ before one.place other.place) where
   -- a candidate and the place that it stands for
   abbrev IsFor : Option (Candidate R) → Option ℕ → Type 0
   IsFor None None = Unit {0}
@@ -122,37 +122,37 @@ module _ {R : Type 0} (cmp : R → R → Ordering) (is_ready : IsReady) (before 
     abbrev left : List ℕ → List ℕ
     left listed = filter (λ p. not (is_among listed p)) places
 
-    first-ready : (listed : List ℕ) → first_ready cmp (is_among listed) all ≡ first_of before (filter (is_ready listed) (left listed))
-    first-ready listed =
-        place-for (first_candidate cmp ready) (first_of before (map candidate_place ready)) (first-for ready (kept Is (may_follow (is_among listed)) all are))
+    next-place : (listed : List ℕ) → next_place cmp (is_among listed) all ≡ first_of before (filter (may_be_listed listed) (left listed))
+    next-place listed =
+        place-for (first_candidate cmp following) (first_of before (map candidate_place following)) (first-for following (kept Is (may_follow (is_among listed)) all are))
         ∙ ap (first_of before)
-        (filter-places (may_follow (is_among listed)) by_place all (each Is (λ one. may_follow (is_among listed) one ≡ by_place one.place) (λ one is. ap (λ b. not (is_among listed one.place) && b) (readies one is listed)) all are)
-        ∙ sym (filter-twice (λ p. not (is_among listed p)) (is_ready listed) places))
+        (filter-places (may_follow (is_among listed)) by_place all (each Is (λ one. may_follow (is_among listed) one ≡ by_place one.place) (λ one is. ap (λ b. not (is_among listed one.place) && b) (listings one is listed)) all are)
+        ∙ sym (filter-twice (λ p. not (is_among listed p)) (may_be_listed listed) places))
       where
-        ready : List (Candidate R)
-        ready = filter (may_follow (is_among listed)) all
+        following : List (Candidate R)
+        following = filter (may_follow (is_among listed)) all
 
         by_place : ℕ → Bool
-        by_place p = not (is_among listed p) && is_ready listed p
+        by_place p = not (is_among listed p) && may_be_listed listed p
 
-    listed-places : (steps : ℕ) (listed : List ℕ) → candidates_from cmp all steps listed ≡ listed_from is_ready before steps listed (left listed)
+    listed-places : (steps : ℕ) (listed : List ℕ) → candidates_from cmp all steps listed ≡ listed_from may_be_listed before steps listed (left listed)
     listed-places zero listed = refl
     listed-places (suc steps) listed =
-        ap (and_later (λ place. candidates_from cmp all steps (listed ++ place ∷ []))) (first-ready listed)
-        ∙ later_same (λ place. candidates_from cmp all steps (listed ++ place ∷ [])) (λ place. listed_from is_ready before steps (listed ++ place ∷ []) (without place (left listed)))
-        (first_of before (filter (is_ready listed) (left listed)))
-        (λ place. listed-places steps (listed ++ place ∷ []) ∙ ap (listed_from is_ready before steps (listed ++ place ∷ [])) (sym (without-listed listed place places)))
+        ap (and_later (λ place. candidates_from cmp all steps (listed ++ place ∷ []))) (next-place listed)
+        ∙ later_same (λ place. candidates_from cmp all steps (listed ++ place ∷ [])) (λ place. listed_from may_be_listed before steps (listed ++ place ∷ []) (without place (left listed)))
+        (first_of before (filter (may_be_listed listed) (left listed)))
+        (λ place. listed-places steps (listed ++ place ∷ []) ∙ ap (listed_from may_be_listed before steps (listed ++ place ∷ [])) (sym (without-listed listed place places)))
 
     -- the candidates of some places are listed as these are
-    pub in-order : (set : List ℕ) → places ≡ set → candidates_from cmp all (length all) [] ≡ in_order is_ready before set
+    pub in-order : (set : List ℕ) → places ≡ set → candidates_from cmp all (length all) [] ≡ in_order may_be_listed before set
     in-order set same =
         listed-places (length all) []
-        ∙ ap (listed_from is_ready before (length all) []) (filter-whole places)
-        ∙ ap (λ n. listed_from is_ready before n [] places) (length-places all)
-        ∙ ap (λ ps. listed_from is_ready before (length ps) [] ps) same
+        ∙ ap (listed_from may_be_listed before (length all) []) (filter-whole places)
+        ∙ ap (λ n. listed_from may_be_listed before n [] places) (length-places all)
+        ∙ ap (λ ps. listed_from may_be_listed before (length ps) [] ps) same
 
 -- what holds of all places holds of those that are listed
-module _ (is_ready : IsReady) (before : Before) (P : ℕ → Type 0) where
+module _ (may_be_listed : MayBeListed) (before : Before) (P : ℕ → Type 0) where
   abbrev HoldsOf : Option ℕ → Type 0
   HoldsOf None = Unit {0}
   HoldsOf (Some place) = P place
@@ -165,29 +165,29 @@ module _ (is_ready : IsReady) (before : Before) (P : ℕ → Type 0) where
   first-holds [] all = tt
   first-holds (place ∷ places) all = earlier-holds place (first_of before places) all.0 (first-holds places all.1)
 
-  listed-hold : (steps : ℕ) (listed left : List ℕ) → AllByRecursion P left → AllByRecursion P (listed_from is_ready before steps listed left)
+  listed-hold : (steps : ℕ) (listed left : List ℕ) → AllByRecursion P left → AllByRecursion P (listed_from may_be_listed before steps listed left)
   listed-hold zero listed left all = tt
   listed-hold (suc steps) listed left all =
       by (λ place. listed-hold steps (listed ++ place ∷ []) (without place left) (kept P (λ p. not (eqb p place)) left all))
-      (first_of before (filter (is_ready listed) left)) (first-holds (filter (is_ready listed) left) (kept P (is_ready listed) left all))
+      (first_of before (filter (may_be_listed listed) left)) (first-holds (filter (may_be_listed listed) left) (kept P (may_be_listed listed) left all))
     where
-      by : ((place : ℕ) → AllByRecursion P (listed_from is_ready before steps (listed ++ place ∷ []) (without place left))) → (o : Option ℕ) → HoldsOf o
-          → AllByRecursion P (and_later (λ place. listed_from is_ready before steps (listed ++ place ∷ []) (without place left)) o)
+      by : ((place : ℕ) → AllByRecursion P (listed_from may_be_listed before steps (listed ++ place ∷ []) (without place left))) → (o : Option ℕ) → HoldsOf o
+          → AllByRecursion P (and_later (λ place. listed_from may_be_listed before steps (listed ++ place ∷ []) (without place left)) o)
       by rest None h = tt
       by rest (Some place) h = (h, rest place)
 
-  pub order-holds : (places : List ℕ) → All P places → All P (in_order is_ready before places)
-  order-holds places all = All-from_recursion P (in_order is_ready before places) (listed-hold (length places) [] places (recursion_from_All P places all))
+  pub order-holds : (places : List ℕ) → All P places → All P (in_order may_be_listed before places)
+  order-holds places all = All-from_recursion P (in_order may_be_listed before places) (listed-hold (length places) [] places (recursion_from_All P places all))
 
 -- ---- the steps of the loop
 
 module _ {R : Type 0} (cmp : R → R → Ordering) (all : List (Candidate R)) (listed : List ℕ) where
-  pub order-next : (n i place : ℕ) → i < n → first_ready cmp (is_among listed) all ≡ Some place → candidates_from cmp all (n - i) listed ≡ place ∷ candidates_from cmp all (n - (i + 1)) (listed ++ place ∷ [])
+  pub order-next : (n i place : ℕ) → i < n → next_place cmp (is_among listed) all ≡ Some place → candidates_from cmp all (n - i) listed ≡ place ∷ candidates_from cmp all (n - (i + 1)) (listed ++ place ∷ [])
   order-next n i place below first =
       let steps : n - i ≡ suc (n - (i + 1)) = omega arith in
       ap (λ k. candidates_from cmp all k listed) steps ∙ ap (and_later (λ p. candidates_from cmp all (n - (i + 1)) (listed ++ p ∷ []))) first
 
-  pub order-end : (steps : ℕ) → first_ready cmp (is_among listed) all ≡ None → candidates_from cmp all steps listed ≡ []
+  pub order-end : (steps : ℕ) → next_place cmp (is_among listed) all ≡ None → candidates_from cmp all steps listed ≡ []
   order-end zero first = refl
   order-end (suc steps) first = ap (and_later (λ p. candidates_from cmp all steps (listed ++ p ∷ []))) first
 
@@ -202,7 +202,7 @@ module _ {R : Type 0} (cmp : R → R → Ordering) (all : List (Candidate R)) (l
         ∙ ap (λ b. not (is_among listed one.place) && b) (all-same one.after.items (recursion_from_All (λ p. p < count) one.after.items is.after))
 
     -- by marks, the first is the same
-    pub first-marked : first_ready cmp (is_marked marks) all ≡ first_ready cmp (is_among listed) all
+    pub first-marked : next_place cmp (is_marked marks) all ≡ next_place cmp (is_among listed) all
     first-marked =
         ap (λ ones. option_map candidate_place (first_candidate cmp ones))
         (filter-same (may_follow (is_marked marks)) (may_follow (is_among listed)) all
@@ -225,8 +225,8 @@ module _ {R : Type 0} (cmp : R → R → Ordering) (all : List (Candidate R)) (l
   place-below count place (Some one) below e = let same : one.place ≡ place = cc in omega arith
 
   -- the first is one of them
-  pub ready-below : (count place : ℕ) → All (IsWithin count) all → first_ready cmp (is_among listed) all ≡ Some place → place < count
-  ready-below count place within first =
+  pub next-below : (count place : ℕ) → All (IsWithin count) all → next_place cmp (is_among listed) all ≡ Some place → place < count
+  next-below count place within first =
       place-below count place (first_candidate cmp (filter (may_follow (is_among listed)) all))
       (first-below count (filter (may_follow (is_among listed)) all) (kept (IsWithin count) (may_follow (is_among listed)) all (recursion_from_All (IsWithin count) all within))) first
 

@@ -10,7 +10,7 @@ use Rattle.fed_room_contract.specs.declared.graph.Stored.{Stored}
 use Rattle.fed_room_contract.specs.Graph.{id_of}
 use Rattle.fed_auth.specs.AuthState.{stands_at}
 use Rattle.fed_resolve.specs.Chain.{auths_at}
-use Rattle.fed_resolve.specs.Order.{Before, IsReady, in_order}
+use Rattle.fed_resolve.specs.Order.{Before, MayBeListed, in_order}
 use Rattle.fed_resolve.specs.PowerOrder.{event_of}
 
 -- a power levels event of a room
@@ -68,8 +68,8 @@ before_stored events line p q one other = false
 abbrev pub is_before_in_mainline : List Stored → List ℕ → Before
 is_before_in_mainline events line p q = before_stored events line p q (slice_get events p) (slice_get events q)
 
--- every place is ready
-abbrev pub at_once : IsReady
+-- every place may be listed at once
+abbrev pub at_once : MayBeListed
 at_once listed place = true
 
 -- a set in the mainline order of a power levels event

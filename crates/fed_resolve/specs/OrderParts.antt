@@ -39,10 +39,10 @@ module _ {R : Type 0} (cmp : R → R → Ordering) where
   first_candidate [] = None
   first_candidate (one ∷ others) = Some (earlier_candidate one (first_candidate others))
 
-  abbrev pub first_ready : (ℕ → Bool) → List (Candidate R) → Option ℕ
-  first_ready is_listed all = option_map candidate_place (first_candidate (filter (may_follow is_listed) all))
+  abbrev pub next_place : (ℕ → Bool) → List (Candidate R) → Option ℕ
+  next_place is_listed all = option_map candidate_place (first_candidate (filter (may_follow is_listed) all))
 
-  -- of those that are not listed, the first that is ready, and then the others, in at most so many steps
+  -- of those that are not listed, the first that may follow, and then the others, in at most so many steps
   abbrev pub candidates_from : List (Candidate R) → ℕ → List ℕ → List ℕ
   candidates_from all zero listed = []
-  candidates_from all (suc steps) listed = and_later (λ place. candidates_from all steps (listed ++ place ∷ [])) (first_ready (is_among listed) all)
+  candidates_from all (suc steps) listed = and_later (λ place. candidates_from all steps (listed ++ place ∷ [])) (next_place (is_among listed) all)

@@ -17,7 +17,7 @@ use Rattle.fed_auth.specs.Levels.{LevelsGiven, user_level}
 use Rattle.fed_auth.specs.Membership.{membership_in}
 use Rattle.fed_auth.specs.StateView.{creator_in}
 use Rattle.fed_resolve.specs.Chain.{auths_at, is_in_chain}
-use Rattle.fed_resolve.specs.Order.{Before, IsReady, is_among, in_order}
+use Rattle.fed_resolve.specs.Order.{Before, MayBeListed, is_among, in_order}
 
 -- ---- power events
 
@@ -80,7 +80,7 @@ abbrev pub is_before_in_power : List Stored → Before
 is_before_in_power events p q = before_stored events p q (slice_get events p) (slice_get events q)
 
 -- all of the set that is in its auth chain is listed
-abbrev pub has_chain_listed : List Stored → List ℕ → IsReady
+abbrev pub has_chain_listed : List Stored → List ℕ → MayBeListed
 has_chain_listed events set listed place = list_all (λ other. not (is_in_chain events place other) || is_among listed other) set
 
 -- a set in its power order

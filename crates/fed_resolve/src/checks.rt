@@ -1,8 +1,8 @@
 // Iterative auth checks.
-ghost use Rattle.std.specs.Prelude.{◌≡◌, IfOk, OnOk, option_map, option_and_then};
+ghost use Rattle.std.specs.Prelude.{◌≡◌, IfOk, OnOk, OnErr, option_map, option_and_then};
 ghost use Rattle.fed_event.specs.Fields.{auth_events_of};
 ghost use Rattle.fed_auth.specs.Allowed.{allowed_of};
-ghost use Rattle.fed_auth.specs.AuthState.{is_rejected, stored_of};
+ghost use Rattle.fed_auth.specs.AuthState.{stored_of};
 ghost use Rattle.fed_auth.specs.Selection.{selector_of, selection_keys};
 ghost use Rattle.fed_auth.specs.SelectionKey.{seen};
 ghost use Rattle.fed_resolve.specs.Checks.{check, checked, with_keys};
@@ -12,7 +12,7 @@ ghost use Rattle.fed_auth.specs.AuthEvents.{events_left};
 use fed_auth::{AuthEvents, Key, Selector, allowed, lay_over};
 use fed_event::EventId;
 use fed_json::NoMemory;
-use fed_room_contract::{Graph, Rule, State, Stored, Verdict};
+use fed_room_contract::{Graph, Rule, State, Stored};
 use std::alloc::Global;
 
 /// Checks the events at these places one after another, each by the state so far, and lays over it those that are allowed and have a
@@ -22,24 +22,40 @@ use std::alloc::Global;
 ///
 /// # Errors
 ///
-/// `NoMemory`; then some of the events may be laid over.
+/// `NoMemory`; then the state is as it was.
 pub fn check_all(
     alloc: Global,
     graph: &Graph,
     places: &[usize],
     state: &mut State,
 ) -> Result<(), NoMemory>
-    ensures { OnOk result (state.new ≡ checked graph.now.stored state.old places.now) }
+    ensures ok { OnOk result (state.new ≡ checked graph.now.stored state.old places.now) }
+    ensures err { OnErr result (state.new ≡ state.old) }
 {
-    for place in places {
-        check(alloc, graph, *place, state)?;
-    }
+    *state = checked(alloc, graph, places, state.copy(alloc)?)?;
     Ok(())
+}
+
+// What becomes of a state where the events at these places are checked.
+pub(crate) fn checked(
+    alloc: Global,
+    graph: &Graph,
+    places: &[usize],
+    state: State,
+) -> Result<State, NoMemory>
+    ensures { IfOk result (λ after. after ≡ checked graph.now.stored state places.now) }
+{
+    let mut after = state;
+    for place in places {
+        check(alloc, graph, *place, &mut after)?;
+    }
+    Ok(after)
 }
 
 // Checks the event at a place by a state, and lays it over where it is allowed.
 fn check(alloc: Global, graph: &Graph, place: usize, state: &mut State) -> Result<(), NoMemory>
-    ensures { OnOk result (state.new ≡ check graph.now.stored state.old place) }
+    ensures ok { OnOk result (state.new ≡ check graph.now.stored state.old place) }
+    ensures err { OnErr result (state.new ≡ state.old) }
 {
     let Some(stored) = graph.at(place) else {
         return Ok(());
@@ -117,15 +133,9 @@ fn auth_at<'a>(events: AuthEvents<'a>, key: Key<'_>) -> Option<&'a EventId>
     ensures { option_map (λ id. id.now) result ≡ auth_id_at (events_left events.entry) (seen key.entry) }
 {
     let auth = events.first_at(key.kind, key.state_key)?;
-    if is_rejected(auth) {
+    if auth.verdict.is_rejected() {
         None
     } else {
         Some(auth.event.event().id())
     }
-}
-
-fn is_rejected(stored: &Stored) -> bool
-    ensures { result ≡ is_rejected stored.now }
-{
-    matches!(stored.verdict, Verdict::Rejected(_))
 }

@@ -34,10 +34,7 @@ fn power_levels<'a>(graph: &'a Graph, event: &Pdu) -> Option<JsonRef<'a>>
 fn creator<'a>(graph: &'a Graph, event: &'a Pdu) -> Option<&'a str>
     ensures { option_map (λ s. s.now) result ≡ option_and_then creator_in (create_by graph.now.stored event.now) }
 {
-    create_event(graph, event)?
-        .content()
-        .member("creator")?
-        .text()
+    fed_auth::creator(create_event(graph, event)?)
 }
 
 // The create event that an event reads: itself, where it is one.

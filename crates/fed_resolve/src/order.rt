@@ -1,8 +1,8 @@
-// Events listed one after another: each time the first of those that are ready.
+// Events listed one after another: each time the first of those that may be listed.
 ghost use Rattle.std.specs.Prelude.{◌≡◌, ◌<◌, ◌==◌, [], All, IfOk, length, option_map, vec_len};
 ghost use Rattle.std.specs.List.{list_all};
 ghost use Rattle.fed_resolve.specs.ChainParts.{is_marked};
-ghost use Rattle.fed_resolve.specs.OrderParts.{IsWithin, IsListedFront, AreListedFronts, earlier_candidate, first_ready, candidates_from};
+ghost use Rattle.fed_resolve.specs.OrderParts.{IsWithin, IsListedFront, AreListedFronts, earlier_candidate, next_place, candidates_from};
 
 use fed_event::EventId;
 use fed_json::NoMemory;
@@ -41,7 +41,7 @@ impl<R> Candidate<R> {
     }
 }
 
-// The places of some events, which are below a count, in order: of those that are not listed, each time the first that is ready. It takes
+// The places of some events, which are below a count, in order: of those that are not listed, each time the first that may be listed. It takes
 // time in proportion to the square of how many they are.
 pub(crate) fn in_order<R: Ord>(
     alloc: Global,
@@ -55,7 +55,7 @@ pub(crate) fn in_order<R: Ord>(
     let mut is_listed = vec![in alloc; false; count]?;
     let mut fronts = vec![in alloc; 0; candidates.len()]?;
     for _ in 0..candidates.len() {
-        let Some(place) = first_ready(candidates, &is_listed, &mut fronts) else {
+        let Some(place) = next_place(candidates, &is_listed, &mut fronts) else {
             break;
         };
         listed.push(place)?;
@@ -66,14 +66,14 @@ pub(crate) fn in_order<R: Ord>(
 
 // The place of the first of those that are not listed, but all that they come after. `fronts` has, for each, how many at the front of
 // what it comes after are known to be listed, so that these are not looked at again.
-fn first_ready<R: Ord>(
+fn next_place<R: Ord>(
     candidates: &[Candidate<R>],
     is_listed: &[bool],
     fronts: &mut [usize],
 ) -> Option<usize>
     requires within { All (IsWithin (length is_listed.now)) candidates.now }
     requires fronts { AreListedFronts is_listed.now candidates.now fronts.old }
-    ensures first { result ≡ first_ready R.cmp (is_marked is_listed.now) candidates.now }
+    ensures first { result ≡ next_place R.cmp (is_marked is_listed.now) candidates.now }
     ensures fronts { AreListedFronts is_listed.now candidates.now fronts.new }
 {
     let mut first = None;

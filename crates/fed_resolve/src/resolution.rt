@@ -1,5 +1,5 @@
 // State resolution.
-ghost use Rattle.std.specs.Prelude.{◌≡◌, ◌<◌, ℕ, Bool, IfOk, IfSome, OnOk, length};
+ghost use Rattle.std.specs.Prelude.{◌≡◌, ◌<◌, ℕ, Bool, IfOk, IfSome, length};
 ghost use Rattle.std.specs.FinMap as finite;
 ghost use Rattle.fed_resolve.specs.Chain.{members as members_of};
 ghost use Rattle.fed_resolve.specs.Checks.{checked};
@@ -9,7 +9,7 @@ ghost use Rattle.fed_resolve.specs.Marks.{AreMarks};
 ghost use Rattle.fed_resolve.specs.PowerOrder.{power_order as power_order_of};
 ghost use Rattle.fed_resolve.specs.Resolution.{with_entries, levels_in, checked_state, resolved_of};
 
-use crate::checks::check_all;
+use crate::checks::checked;
 use crate::conflict::unconflicted;
 use crate::difference::full_conflicted;
 use crate::mainline::mainline_order;
@@ -35,10 +35,9 @@ pub fn resolve(alloc: Global, graph: &Graph, states: &[State]) -> Result<State, 
     ensures { IfOk result (λ state. state ≡ resolved_of graph.now.stored states.now) }
 {
     let agreed = unconflicted(alloc, states)?;
-    let mut state = agreed.copy(alloc)?;
-    check_conflicted(alloc, graph, states, &mut state)?;
-    lay_all(alloc, &mut state, &agreed)?;
-    Ok(state)
+    let state = agreed.copy(alloc)?;
+    let state = check_conflicted(alloc, graph, states, state)?;
+    with_entries(alloc, state, &agreed)
 }
 
 // Checks the full conflicted set, from the unconflicted state on: its power events first, then the others.
@@ -46,15 +45,15 @@ fn check_conflicted(
     alloc: Global,
     graph: &Graph,
     states: &[State],
-    state: &mut State,
-) -> Result<(), NoMemory>
-    requires { state.old ≡ unconflicted_of states.now }
-    ensures { OnOk result (state.new ≡ checked_state graph.now.stored states.now) }
+    agreed: State,
+) -> Result<State, NoMemory>
+    requires { agreed ≡ unconflicted_of states.now }
+    ensures { IfOk result (λ state. state ≡ checked_state graph.now.stored states.now) }
 {
     let set = full_conflicted(alloc, graph, states)?;
     let power = power_set(alloc, graph, &set)?;
     let others = other_set(set, &power);
-    check_by_power(alloc, graph, &power, state)?;
+    let state = check_by_power(alloc, graph, &power, agreed)?;
     check_by_mainline(alloc, graph, &others, state)
 }
 
@@ -63,15 +62,15 @@ fn check_by_power(
     alloc: Global,
     graph: &Graph,
     marks: &[bool],
-    state: &mut State,
-) -> Result<(), NoMemory>
+    state: State,
+) -> Result<State, NoMemory>
     requires { length marks.now ≡ length graph.now.stored }
-    ensures { OnOk result ((test : ℕ → Bool) → AreMarks (length graph.now.stored) test marks.now
-        → state.new ≡ checked graph.now.stored state.old (power_order_of graph.now.stored (members_of graph.now.stored test))) }
+    ensures { IfOk result (λ after. (test : ℕ → Bool) → AreMarks (length graph.now.stored) test marks.now
+        → after ≡ checked graph.now.stored state (power_order_of graph.now.stored (members_of graph.now.stored test))) }
 {
     let places = members(alloc, marks)?;
     let places = power_order(alloc, graph, &places)?;
-    check_all(alloc, graph, &places, state)
+    checked(alloc, graph, &places, state)
 }
 
 // Checks the events at the places that are marked, in the mainline order of the power levels of the state.
@@ -79,17 +78,17 @@ fn check_by_mainline(
     alloc: Global,
     graph: &Graph,
     marks: &[bool],
-    state: &mut State,
-) -> Result<(), NoMemory>
+    state: State,
+) -> Result<State, NoMemory>
     requires { length marks.now ≡ length graph.now.stored }
-    ensures { OnOk result ((test : ℕ → Bool) → AreMarks (length graph.now.stored) test marks.now
-        → state.new ≡ checked graph.now.stored state.old
-        (mainline_order_of graph.now.stored (levels_in graph.now.stored state.old) (members_of graph.now.stored test))) }
+    ensures { IfOk result (λ after. (test : ℕ → Bool) → AreMarks (length graph.now.stored) test marks.now
+        → after ≡ checked graph.now.stored state
+        (mainline_order_of graph.now.stored (levels_in graph.now.stored state) (members_of graph.now.stored test))) }
 {
     let places = members(alloc, marks)?;
-    let levels = levels_place(graph, state);
+    let levels = levels_place(graph, &state);
     let places = mainline_order(alloc, graph, levels, &places)?;
-    check_all(alloc, graph, &places, state)
+    checked(alloc, graph, &places, state)
 }
 
 // The place of the power levels event of a state.
@@ -103,12 +102,13 @@ fn levels_place(graph: &Graph, state: &State) -> Option<usize>
     }
 }
 
-// Lays the entries of another state over.
-fn lay_all(alloc: Global, state: &mut State, other: &State) -> Result<(), NoMemory>
-    ensures { OnOk result (state.new ≡ with_entries state.old (finite.entries other.now)) }
+// A state with the entries of another one laid over it.
+fn with_entries(alloc: Global, state: State, other: &State) -> Result<State, NoMemory>
+    ensures { IfOk result (λ all. all ≡ with_entries state (finite.entries other.now)) }
 {
+    let mut all = state;
     for entry in &other.entries(alloc)? {
-        state.insert(alloc, entry.kind, entry.state_key, entry.id.copy(alloc)?)?;
+        all.insert(alloc, entry.kind, entry.state_key, entry.id.copy(alloc)?)?;
     }
-    Ok(())
+    Ok(all)
 }

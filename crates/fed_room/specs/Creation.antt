@@ -4,6 +4,7 @@ use Rattle.std.specs.Prelude.{ℕ, ◌+◌, List, [], ◌∷◌, map, find, is_n
 use Rattle.serde_json.specs.Data.{Data, unsigned, number, string, object, no_members, member}
 use Rattle.fed_event.specs.declared.fault.PduFault.{PduFault}
 use Rattle.fed_event.specs.Checked.{CheckedEvent}
+use Rattle.fed_auth.specs.Version.{room_version}
 use Rattle.fed_room_contract.specs.Draft.{DraftFields}
 use Rattle.fed_room_contract.specs.Prepared.{Signer, is_own_user}
 use Rattle.fed_room.specs.declared.started_fault.StartedFault.{StartedFault}
@@ -21,7 +22,7 @@ abbrev pub state_draft : List ℕ → List ℕ → List ℕ → List ℕ → Dat
 state_draft room sender kind key content = record { room = room; sender = sender; kind = kind; state_key = Some key; content = content; at_ms = 0 }
 
 abbrev pub create_content : List ℕ → Data
-create_content creator = object (member (codes "creator") (string creator) (member (codes "room_version") (string (codes "10")) no_members))
+create_content creator = object (member (codes "creator") (string creator) (member (codes "room_version") (string room_version) no_members))
 
 abbrev pub creation : List ℕ → List ℕ → DraftFields
 creation room user = state_draft room user (codes "m.room.create") [] (create_content user)

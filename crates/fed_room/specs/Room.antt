@@ -12,7 +12,7 @@ use Rattle.fed_room.specs.Links.{links_of}
 use Rattle.fed_room.specs.Parts.{parts_of}
 use Rattle.fed_room.specs.States.{state_with, state_before, current_state}
 
--- the name of the own server, the events, and the state that is ready to be the one after the next event
+-- the name of the own server, the events, and the state after the next event, where it is made already
 pub record RoomValue : Type 0 where
   pub own : List ℕ
   pub store : StoreState
@@ -36,7 +36,7 @@ room_rules = record {
   parts = λ events draft. parts_of (links_of events draft) draft;
 }
 
--- the store has room for the event, which is ready, and the state after it is ready too
+-- the store has room for the event, which is ready, and the state after it is made
 pub record IsPrepared (r : RoomValue) (p : PreparedEvent) : Type 0 where
   pub reserved : r.store.reserved ≡ Some (event_id p.event)
   pub ready : is_ready r.store.room.stored p.event.event ≡ true

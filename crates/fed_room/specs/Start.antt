@@ -5,6 +5,7 @@ use Rattle.serde_json.specs.Find.{as_str, get}
 use Rattle.fed_event.specs.Tests.{holds}
 use Rattle.fed_event.specs.Fields.{content_of, kind_of}
 use Rattle.fed_event.specs.Checked.{CheckedEvent}
+use Rattle.fed_auth.specs.Version.{is_known_version}
 use Rattle.fed_room_contract.specs.declared.receipt.Receipt.{Receipt}
 use Rattle.fed_room_contract.specs.declared.receipt.Receipt.TheVariants as receipt
 use Rattle.fed_room_contract.specs.Room.{Rules, RoomState, empty_room, is_accepted, receipt_of, after_receipt}
@@ -17,14 +18,14 @@ abbrev pub is_create_event : Data → Bool
 is_create_event event = bytes_eq (kind_of event) (codes "m.room.create")
 
 -- a create event that has no version is of version 1
-abbrev pub is_of_version_10 : Data → Bool
-is_of_version_10 event = holds (λ version. bytes_eq version (codes "10")) (option_and_then as_str (get (codes "room_version") (content_of event)))
+abbrev pub has_known_version : Data → Bool
+has_known_version event = holds is_known_version (option_and_then as_str (get (codes "room_version") (content_of event)))
 
 -- why no room begins with a first event like that
 abbrev pub first_fault_of : List CheckedEvent → Option StartFault
 first_fault_of [] = Some Empty
 first_fault_of (first ∷ others) =
-    if is_create_event first.event then (if is_of_version_10 first.event then None else Some Version) else Some NotCreate
+    if is_create_event first.event then (if has_known_version first.event then None else Some Version) else Some NotCreate
 
 -- ---- all events
 

@@ -7,7 +7,7 @@ use Rattle.fed_room.specs.declared.resolved.Resolved.{Resolved}
 use Rattle.fed_room.specs.declared.resolved.Resolved.TheVariants.{Kept, Made}
 use Rattle.fed_room.specs.declared.states.States.TheInside.{Inside}
 
--- the state after each stored event, and that which is ready to be the next one
+-- the state after each stored event, and the next one, where it is made already
 pub record KeptStates : Type 0 where
   pub after : List StateMap
   pub next : Option StateMap

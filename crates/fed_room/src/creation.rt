@@ -12,6 +12,7 @@ ghost use Rattle.fed_room.specs.LineParts.{line_seen};
 use crate::drafting::is_own_user;
 use crate::line::Line;
 use crate::started_fault::StartedFault;
+use fed_auth::ROOM_VERSION;
 use fed_event::{Checked, Keys, PduFault};
 use fed_json::{Json, NoMemory};
 use fed_room_contract::Draft;
@@ -130,7 +131,7 @@ fn founding(alloc: Global, room: &str, user: &str) -> Result<Vec<Draft>, NoMemor
 fn creation(alloc: Global, room: &str, user: &str) -> Result<Draft, NoMemory>
     ensures { IfOk result (λ draft. draft ≡ creation room.now user.now) }
 {
-    let mut content = only(alloc, "room_version", text(alloc, "10")?)?;
+    let mut content = only(alloc, "room_version", text(alloc, ROOM_VERSION)?)?;
     content.put(String::from_str(alloc, "creator")?, text(alloc, user)?)?;
     state_draft(alloc, room, user, "m.room.create", "", content)
 }

@@ -2,7 +2,7 @@
 ghost use Rattle.std.specs.Prelude.{◌≡◌, IfOk, OnOk};
 ghost use Rattle.fed_event.specs.EventId.{event_id_of};
 ghost use Rattle.fed_event.specs.Fields.{kind_of, state_key_of};
-ghost use Rattle.fed_auth.specs.AuthState.{auth_state_of, is_rejection, with_id_at};
+ghost use Rattle.fed_auth.specs.AuthState.{auth_state_of, with_id_at};
 ghost use Rattle.fed_room.specs.Decision.{allowed_by_auth, allowed_by_both};
 ghost use Rattle.fed_room.specs.States.{state_before, state_with};
 
@@ -60,16 +60,10 @@ pub(crate) fn state_with(
     ensures { IfOk result (λ state. state ≡ state_with before (record { event = event.now; verdict = verdict })) }
 {
     let mut state = before;
-    if !is_rejection(verdict) {
+    if !verdict.is_rejected() {
         lay(alloc, event.event(), &mut state)?;
     }
     Ok(state)
-}
-
-fn is_rejection(verdict: Verdict) -> bool
-    ensures { result ≡ is_rejection verdict }
-{
-    matches!(verdict, Verdict::Rejected(_))
 }
 
 // Lays an event over a state, where it has a state key.

@@ -33,7 +33,7 @@ use std::marker::Model;
 /// The event that it makes of a draft follows the forward extremities, at most `MAX_PREV_EVENTS`, the deepest first, and has the auth
 /// events that the state before it selects.
 ///
-/// Contracts see it as the name of its server and its events, and beside these the state that `prepare` has made ready.
+/// Contracts see it as the name of its server and its events, and beside these the state after the next event, where `prepare` has made it.
 #[derive(Drop)]
 pub struct Room {
     own: String,
@@ -137,20 +137,20 @@ impl Room {
         Ok((verdict, after))
     }
 
-    // Decides on an event that is ready, and has the state after it ready. An error leaves the room as it was.
-    fn make_ready(&mut self, alloc: Global, event: &Checked) -> Result<Verdict, NoMemory>
+    // Decides on an event that is ready, and makes the state after it the next one. An error leaves the room as it was.
+    fn decide_next(&mut self, alloc: Global, event: &Checked) -> Result<Verdict, NoMemory>
         requires { is_ready self.old.store.room.stored event.now.event ≡ true }
         ensures verdict { IfOk result (λ verdict. verdict ≡ verdict_of self.old.store.room.stored event.now) }
         ensures ok { IfOk result (λ verdict. self.new ≡ record { own = self.old.own; store = self.old.store; next = Some (state_with (state_before self.old.store.room.stored event.now.event) (record { event = event.now; verdict = verdict })) }) }
         ensures err { OnErr result (self.new ≡ self.old) }
     {
         let (verdict, after) = self.decided(alloc, event)?;
-        self.states.make_ready(after)?;
+        self.states.set_next(after)?;
         Ok(verdict)
     }
 
-    // Stores an event that room was made for, and the state after it, which is ready. It takes no memory.
-    fn store_ready(&mut self, event: Checked, verdict: Verdict)
+    // Stores an event that room was made for, and the state after it, which is the next one. It takes no memory.
+    fn store_next(&mut self, event: Checked, verdict: Verdict)
         requires reserved { self.old.store.reserved ≡ Some (event_id event) }
         requires new { is_stored self.old.store.room.stored (event_id event) ≡ false }
         requires ready { is_ready self.old.store.room.stored event.event ≡ true }
@@ -158,7 +158,7 @@ impl Room {
         ensures { self.new ≡ record { own = self.old.own; store = after_store self.old.store event verdict; next = None } }
     {
         self.store.store(event, verdict);
-        self.states.push_ready();
+        self.states.push_next();
     }
 
     /// What `receive` does, which leaves the name of the server.
@@ -176,9 +176,9 @@ impl Room {
         ensures own { self.new.own ≡ self.old.own }
     {
         match self.store.admit(alloc, event)? {
-            Arrival::Ready(event) => match self.make_ready(alloc, &event) {
+            Arrival::Ready(event) => match self.decide_next(alloc, &event) {
                 Ok(verdict) => {
-                    self.store_ready(event, verdict);
+                    self.store_next(event, verdict);
                     Ok(Receipt::Stored(verdict))
                 }
                 Err(error) => Err((event, error)),
@@ -228,11 +228,11 @@ impl RoomEngine for Room {
         };
         let id = self.store.reserve_waiting(alloc, place)?;
         let (verdict, after) = self.decided(alloc, &self.store.waiting()[place])?;
-        self.states.make_ready(after)?;
+        self.states.set_next(after)?;
         self.store.store_waiting(place, verdict);
         let stored = self.store.graph().events();
         prove!(!stored.is_empty());
-        self.states.push_ready();
+        self.states.push_next();
         Ok(Some((id, Receipt::Stored(verdict))))
     }
 
@@ -250,7 +250,7 @@ impl RoomEngine for Room {
         }
         let after = state_with(alloc, before.copy(alloc)?, &event, Verdict::Accepted)?;
         self.store.reserve(alloc, event.event().id())?;
-        self.states.make_ready(after)?;
+        self.states.set_next(after)?;
         Ok(Prepared::new(alloc, event, before)?)
     }
 
@@ -258,7 +258,7 @@ impl RoomEngine for Room {
         let (event, before, id) = prepared.into_parts();
         drop(before);
         if !self.store.graph().contains(id.as_str()) {
-            self.store_ready(event, Verdict::Accepted);
+            self.store_next(event, Verdict::Accepted);
         }
         id
     }

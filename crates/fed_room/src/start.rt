@@ -5,10 +5,11 @@ ghost use Rattle.fed_event.specs.Fields.{content_of};
 ghost use Rattle.fed_room.specs.declared.start_fault.StartFault.TheVariants.{Memory, Empty, NotCreate, Version, NotAccepted};
 ghost use Rattle.fed_room_contract.specs.Room.{empty_room, receipt_of, after_receipt};
 ghost use Rattle.fed_room.specs.Room.{room_of, room_rules};
-ghost use Rattle.fed_room.specs.Start.{is_create_event, is_of_version_10, first_fault_of, is_taken, after_all, start_fault_of};
+ghost use Rattle.fed_room.specs.Start.{is_create_event, has_known_version, first_fault_of, is_taken, after_all, start_fault_of};
 
 use crate::room::Room;
 use crate::start_fault::StartFault;
+use fed_auth::is_known_version;
 use fed_event::{Checked, Pdu};
 use fed_room_contract::Receipt;
 use std::alloc::Global;
@@ -70,7 +71,7 @@ fn first_fault(events: &[Checked]) -> Option<StartFault>
     };
     if !is_create_event(first.event()) {
         Some(StartFault::NotCreate)
-    } else if !is_of_version_10(first.event()) {
+    } else if !has_known_version(first.event()) {
         Some(StartFault::Version)
     } else {
         None
@@ -83,12 +84,12 @@ fn is_create_event(event: &Pdu) -> bool
     event.kind() == "m.room.create"
 }
 
-// Whether a create event gives room version 10: one that gives none makes a room of version 1.
-fn is_of_version_10(event: &Pdu) -> bool
-    ensures { result ≡ is_of_version_10 event.now }
+// Whether a create event gives a known room version: one that gives none makes a room of version 1.
+fn has_known_version(event: &Pdu) -> bool
+    ensures { result ≡ has_known_version event.now }
 {
     match version(event) {
-        Some(version) => version == "10",
+        Some(version) => is_known_version(version),
         None => false,
     }
 }

@@ -10,7 +10,7 @@ use fed_room_contract::{Graph, State};
 use std::alloc::Global;
 use std::marker::Model;
 
-/// The state after each stored event, in the order of storing, and one that is ready to be the next.
+/// The state after each stored event, in the order of storing, and the next one, where it is made already.
 ///
 /// Contracts see it as these states.
 #[derive(Drop)]
@@ -42,12 +42,12 @@ impl States {
         }
     }
 
-    /// Has this state ready, so that `push_ready` takes no memory, in place of the one that was ready before.
+    /// Makes this state the next one, in the place of the one that was, and room for it, so that `push_next` takes no memory.
     ///
     /// # Errors
     ///
     /// `NoMemory`; then the states are as they were.
-    pub(crate) fn make_ready(&mut self, state: State) -> Result<(), NoMemory>
+    pub(crate) fn set_next(&mut self, state: State) -> Result<(), NoMemory>
         ensures ok { OnOk result (self.new ≡ record { after = self.old.after; next = Some state }) }
         ensures err { OnErr result (self.new ≡ self.old) }
     {
@@ -56,8 +56,8 @@ impl States {
         Ok(())
     }
 
-    /// Adds the state that is ready. It takes no memory.
-    pub(crate) fn push_ready(&mut self)
+    /// Adds the next state. It takes no memory.
+    pub(crate) fn push_next(&mut self)
         requires { IsSome self.old.next }
         ensures { IfSome self.old.next (λ state. self.new ≡ record { after = self.old.after ++ state ∷ []; next = None }) }
     {

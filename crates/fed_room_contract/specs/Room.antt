@@ -114,6 +114,12 @@ is_accepted Accepted = true
 is_accepted (Rejected rule) = false
 is_accepted (SoftFailed rule) = false
 
+-- an event that is rejected: neither accepted nor soft-failed
+abbrev pub is_rejection : Verdict → Bool
+is_rejection Accepted = false
+is_rejection (Rejected rule) = true
+is_rejection (SoftFailed rule) = false
+
 -- the rule by which an event fails
 abbrev pub rule_of : Verdict → Option Rule
 rule_of Accepted = None

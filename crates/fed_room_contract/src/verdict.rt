@@ -15,13 +15,20 @@ pub enum Verdict {
 }
 
 impl Verdict {
-    ghost use Rattle.fed_room_contract.specs.Room.{is_accepted, rule_of};
+    ghost use Rattle.fed_room_contract.specs.Room.{is_accepted, is_rejection, rule_of};
 
     /// Whether the event is accepted.
     pub fn is_accepted(self) -> bool
         ensures { result ≡ is_accepted self }
     {
         self.rule().is_none()
+    }
+
+    /// Whether the event is rejected: it fails by its auth events or by the state before it.
+    pub fn is_rejected(self) -> bool
+        ensures { result ≡ is_rejection self }
+    {
+        matches!(self, Verdict::Rejected(_))
     }
 
     /// The rule by which the event fails.

@@ -1,5 +1,5 @@
 use Rattle.std.proofs.Common.{◌<◌, All, length, subst, sym, ap, ◌∙◌}
-use Rattle.std.proofs.lemmas.Result.{on_ok_weaker}
+use Rattle.std.proofs.lemmas.Result.{IfOk-weaker}
 use Rattle.fed_resolve.specs.Chain.{members}
 use Rattle.fed_resolve.specs.Checks.{checked}
 use Rattle.fed_resolve.specs.Mainline.{mainline_order}
@@ -13,10 +13,10 @@ mainline_order-requires-clause-set c =
 pub returns : goal.returns
 returns c =
     let events = c.args.graph.now.stored in
-    on_ok_weaker c.check_all.result
-    (λ done test are.
+    IfOk-weaker c.checked.result _ _
+    (λ after done test are.
     done
-    ∙ ap (checked events c.args.state.now)
+    ∙ ap (checked events c.args.state)
     (c.deref-2.ensures.value ∙ c.in_ok-places-2.ensures.places ∙ ap (mainline_order events c.levels_place-levels.result) (c.deref.ensures.value ∙ c.in_ok-places.ensures.members events test are)
     ∙ ap (λ levels. mainline_order events levels (members events test)) c.levels_place-levels.ensures.place))
-    c.check_all.ensures
+    c.checked.ensures

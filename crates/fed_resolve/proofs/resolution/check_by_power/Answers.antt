@@ -1,5 +1,5 @@
 use Rattle.std.proofs.Common.{◌<◌, All, length, subst, sym, ap, ◌∙◌}
-use Rattle.std.proofs.lemmas.Result.{on_ok_weaker}
+use Rattle.std.proofs.lemmas.Result.{IfOk-weaker}
 use Rattle.fed_resolve.specs.Checks.{checked}
 use Rattle.fed_resolve.specs.PowerOrder.{power_order}
 use Rattle.fed_resolve.proofs.resolution.check_by_power.Goals as goal
@@ -12,6 +12,6 @@ power_order-requires c =
 pub returns : goal.returns
 returns c =
     let events = c.args.graph.now.stored in
-    on_ok_weaker c.check_all.result
-    (λ done test are. done ∙ ap (checked events c.args.state.now) (c.deref-2.ensures.value ∙ c.in_ok-places-2.ensures.places ∙ ap (power_order events) (c.deref.ensures.value ∙ c.in_ok-places.ensures.members events test are)))
-    c.check_all.ensures
+    IfOk-weaker c.checked.result _ _
+    (λ after done test are. done ∙ ap (checked events c.args.state) (c.deref-2.ensures.value ∙ c.in_ok-places-2.ensures.places ∙ ap (power_order events) (c.deref.ensures.value ∙ c.in_ok-places.ensures.members events test are)))
+    c.checked.ensures

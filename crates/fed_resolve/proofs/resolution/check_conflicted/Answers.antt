@@ -1,5 +1,5 @@
 use Rattle.std.proofs.Common.{ℕ, List, Bool, length, subst, sym, ap, ◌∙◌}
-use Rattle.std.proofs.lemmas.Result.{on_ok_weaker}
+use Rattle.std.proofs.lemmas.Result.{IfOk-weaker}
 use Rattle.fed_resolve.specs.Chain.{members}
 use Rattle.fed_resolve.specs.Checks.{checked}
 use Rattle.fed_resolve.specs.Marks.{AreMarks}
@@ -40,9 +40,9 @@ returns c =
     let set = c.in_ok-set.ensures in
     let power = c.in_ok-power.ensures states (subst (AreMarks (length events) (is_full_conflicted events states)) (sym c.deref.ensures.value) set) in
     let others = c.other_set-others.ensures events states set (subst (AreMarks (length events) (is_power events states)) (sym c.deref-2.ensures.value) power) in
-    let first = c.in_ok-check_by_power.ensures (is_power events states) (subst (AreMarks (length events) (is_power events states)) (sym c.deref-3.ensures.value) power) in
-    on_ok_weaker c.check_by_mainline.result
-    (λ done.
+    let first = c.in_ok-state.ensures (is_power events states) (subst (AreMarks (length events) (is_power events states)) (sym c.deref-3.ensures.value) power) in
+    IfOk-weaker c.check_by_mainline.result _ _
+    (λ after done.
     done (is_other events states) (subst (AreMarks (length events) (is_other events states)) (sym c.deref-4.ensures.value) others)
     ∙ ap (λ state. checked events state (mainline_order events (levels_in events state) (members events (is_other events states))))
     (first ∙ ap (λ state. checked events state (power_order events (members events (is_power events states)))) c.requires))

@@ -45,8 +45,8 @@ invariant_of-self-3 c =
     let stored : c.store_waiting.new.self.room.stored ≡ old.room.stored ++ last ∷ [] =
     ap (λ (s : StoreState). s.room.stored) new ∙ ap (λ (s : StoreState). s.room.stored ++ last ∷ []) reserved in
     let graph : IsGraph c.store_waiting.new.self.room.stored = subst (λ (g : GraphState). IsGraph g.stored) c.graph.ensures c.events-stored.ensures.graph in
-    let pushed : c.push_ready.new.self ≡ record { after = kept ++ c.in_ok-verdict.after ∷ []; next = None } =
-    subst (λ (s : KeptStates). IfSome s.next (λ state. c.push_ready.new.self ≡ record { after = s.after ++ state ∷ []; next = None })) c.in_ok-make_ready.ensures.ok c.push_ready.ensures in
+    let pushed : c.push_next.new.self ≡ record { after = kept ++ c.in_ok-verdict.after ∷ []; next = None } =
+    subst (λ (s : KeptStates). IfSome s.next (λ state. c.push_next.new.self ≡ record { after = s.after ++ state ∷ []; next = None })) c.in_ok-set_next.ensures.ok c.push_next.ensures in
     let after : c.in_ok-verdict.after ≡ state_with (state_before old.room.stored event.event) last =
     c.in_ok-verdict.ensures.after ∙ ap (λ (s : StoreState). state_with (state_before s.room.stored event.event) last) reserved in
     record {

@@ -82,8 +82,8 @@ returns-clause-prepared g c =
     let event = c.in_ok-event.event in
     let before : c.in_ok-links.before ≡ state_before stored event.event = c.in_ok-links.ensures.before ∙ ap (resolved_after stored) (sym c.in_ok-event.ensures.prev_events) in
     let after = c.in_ok-after.ensures ∙ ap (λ (b : StateMap). state_with b (record { event = event; verdict = Accepted })) (c.in_ok-copy.ensures ∙ before) in
-    let next : c.make_ready.new.self.next ≡ Some (state_with (state_before c.reserve.new.self.room.stored event.event) (record { event = event; verdict = Accepted })) =
-    ap (λ (s : KeptStates). s.next) c.in_ok-make_ready.ensures.ok ∙ ap (λ (b : StateMap). Some b) after
+    let next : c.set_next.new.self.next ≡ Some (state_with (state_before c.reserve.new.self.room.stored event.event) (record { event = event; verdict = Accepted })) =
+    ap (λ (s : KeptStates). s.next) c.in_ok-set_next.ensures.ok ∙ ap (λ (b : StateMap). Some b) after
     ∙ ap (λ (events : List Stored). Some (state_with (state_before events event.event) (record { event = event; verdict = Accepted }))) (sym now) in
     record {
       reserved = search rules;

@@ -6,7 +6,7 @@ use Rattle.fed_room_contract.specs.Store.{StoreState}
 use Rattle.fed_room.specs.Room.{RoomValue}
 use Rattle.fed_room.specs.States.{state_with, state_before, states_after}
 use Rattle.fed_room.proofs.Kept.{graph-more, kept-more}
-use Rattle.fed_room.proofs.room.Room.store_ready.Goals as goal
+use Rattle.fed_room.proofs.room.Room.store_next.Goals as goal
 
 pub invariant_of-self : goal.invariant_of-self
 invariant_of-self c =
@@ -21,5 +21,5 @@ invariant_of-self c =
     let stored : c.store.new.self.room.stored ≡ events ++ last ∷ [] = ap (λ (s : StoreState). s.room.stored) c.store.ensures in
     record {
       graph = subst IsGraph (sym stored) (graph-more events kept last c.self.invariant.graph c.self.invariant.after new ready);
-      after = kept-more events kept last c.self.invariant.graph c.self.invariant.after new ready c.push_ready.new.self c.self.inside.states.next next c.push_ready.ensures ∙ ap states_after (sym stored);
+      after = kept-more events kept last c.self.invariant.graph c.self.invariant.after new ready c.push_next.new.self c.self.inside.states.next next c.push_next.ensures ∙ ap states_after (sym stored);
     }

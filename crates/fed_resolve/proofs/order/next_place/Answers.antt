@@ -5,7 +5,7 @@ use Rattle.std.proofs.lemmas.Bool.{eq-eqb, ne_eqb, and_right}
 use Rattle.fed_resolve.specs.ChainParts.{is_marked}
 use Rattle.fed_resolve.specs.OrderParts.{may_follow, earlier_candidate, first_candidate}
 use Rattle.fed_resolve.proofs.Orders.{fronts-set, follow-step}
-use Rattle.fed_resolve.proofs.order.first_ready.Goals as goal
+use Rattle.fed_resolve.proofs.order.next_place.Goals as goal
 
 pub loop-index-preserved-then-fronts-index : goal.loop-index-preserved-then-fronts-index
 loop-index-preserved-then-fronts-index g c =

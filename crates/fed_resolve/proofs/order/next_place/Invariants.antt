@@ -1,7 +1,7 @@
 use Rattle.std.proofs.Common.{◌≡◌, drop, filter, option_map}
 use Rattle.fed_resolve.specs.ChainParts.{is_marked}
 use Rattle.fed_resolve.specs.OrderParts.{may_follow, first_candidate, AreListedFronts}
-use Rattle.fed_resolve.proofs.order.first_ready.Given as goal
+use Rattle.fed_resolve.proofs.order.next_place.Given as goal
 
 -- the first of those from here on
 abbrev pub invariant-loop-index : goal.invariant-loop-index
