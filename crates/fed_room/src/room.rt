@@ -230,6 +230,7 @@ impl RoomEngine for Room {
         let (verdict, after) = self.decided(alloc, &self.store.waiting()[place])?;
         self.states.set_next(after)?;
         self.store.store_waiting(place, verdict);
+        // The graph tells that what it stores now is one, which the proof needs of the states that are kept beside it.
         let stored = self.store.graph().events();
         prove!(!stored.is_empty());
         self.states.push_next();
