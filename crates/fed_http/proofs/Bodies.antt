@@ -17,7 +17,7 @@ reached : (bytes rest : List ℕ) (found : Extent) (e : IsChunksEnd bytes found)
 reached bytes rest found e is = subst (ReachesTrailer bytes) (sym is) e.reaches
 
 pub body_lacks : (bytes rest : List ℕ) (found : Extent) → IsChunksEnd bytes found → rest ≡ drop found.text bytes → LacksTrailer rest → LacksChunks bytes
-body_lacks bytes rest found e is lacks = waiting.trailer rest (reached bytes rest found e is) lacks.few lacks.none lacks.may
+body_lacks bytes rest found e is lacks = waiting.trailer rest (reached bytes rest found e is) lacks.few lacks.unended
 
 pub walk_fault_is : (bytes : List ℕ) (fault : HttpFault) → IsWalkFault bytes fault → IsChunkedFault bytes fault
 walk_fault_is bytes Memory fact = fact
@@ -29,7 +29,7 @@ walk_fault_is bytes HasFailed fact = fact
 
 pub trailer_fault_is : (bytes rest : List ℕ) (found : Extent) (fault : HttpFault) → IsChunksEnd bytes found → rest ≡ drop found.text bytes → IsTrailerFault rest fault → IsChunkedFault bytes fault
 trailer_fault_is bytes rest found Memory e is fact = fact
-trailer_fault_is bytes rest found BadHead e is fact = record { rest = rest; reaches = reached bytes rest found e is; many = fact }
+trailer_fault_is bytes rest found BadHead e is fact = record { rest = rest; reaches = reached bytes rest found e is; full = fact }
 trailer_fault_is bytes rest found TooLarge e is fact = inr (record { rest = rest; reaches = reached bytes rest found e is; full = fact.0; unended = fact.1 })
 trailer_fault_is bytes rest found BadLength e is fact = fact
 trailer_fault_is bytes rest found BadChunk e is fact = no_trailer rest (reached bytes rest found e is) fact

@@ -1,19 +1,21 @@
 -- The chunks at the front of bytes are read in one way.
-use Rattle.std.proofs.Common.{arith, ◌≡◌, ℕ, ◌+◌, ◌<◌, ◌≤◌, List, [], ◌∷◌, ◌++◌, length, refl, sym, ap, ◌∙◌, append_assoc, length-append}
+use Rattle.std.proofs.Common.{arith, ◌≡◌, ℕ, ◌+◌, ◌<◌, ◌≤◌, List, [], ◌∷◌, ◌++◌, length, drop, refl, sym, ap, subst, ◌∙◌, append_assoc, length-append, inl, inr}
 use Rattle.std.specs.List.{AllByRecursion}
 use Rattle.std.proofs.lemmas.List.{append-nil}
 use Rattle.std.proofs.lemmas.Grind.{flat_map-append}
 use Rattle.httparse.specs.Ascii.{crlf_bytes}
-use Rattle.httparse.specs.Grammar.{ChunkLine, print_chunk_line, chunk_size, print_section}
+use Rattle.httparse.specs.Grammar.{ChunkLine, print_chunk_line, chunk_size, print_section, HasNoSection}
 use Rattle.httparse.proofs.ChunkLemmas.{chunk_line_unique}
 use Rattle.httparse.proofs.GrammarLemmas.{section_unique}
 use Rattle.httparse.proofs.PieceLemmas.{front-append}
 use Rattle.fed_http.specs.Limits.{max_head, max_body}
 use Rattle.fed_http.specs.Body.{Chunk, print_chunk, IsChunk, IsShortLine, IsLastLine, print_chunks, chunk_data, ChunkedBody, IsChunkedBody, print_chunked}
-use Rattle.fed_http.specs.Faults.{ReadsChunks, ReachesTrailer, HasBadChunk, no_line, no_line_end, no_trailer, HasLargeChunks, HasLargeTrailer, HasManyTrailers}
+use Rattle.fed_http.specs.Faults.{ReadsChunks, ReachesTrailer, HasBadLine, HasBadChunk, no_line, no_line_end, no_trailer, HasLargeChunks, HasLargeTrailer, HasManyTrailers}
+use Rattle.fed_http.specs.Unfinished.{trailer_front}
 use Rattle.fed_http.specs.Waiting.{LacksChunks}
 use Rattle.fed_http.specs.Waiting as waiting
-use Rattle.fed_http.proofs.Windows.{split_same, shrunk_more}
+use Rattle.fed_http.proofs.Windows.{split_same, shrunk_more, rejoined}
+use Rattle.fed_http.proofs.TrailerFronts.{front-front, front-full, front-many, front-section}
 
 pub regroup : (a b c x : List ℕ) → (a ++ b ++ c) ++ x ≡ a ++ (b ++ (c ++ x))
 regroup a b c x = simp append_assoc
@@ -125,12 +127,16 @@ behind_last b bytes rest more after vb r e =
 
 -- ---- what excludes a body
 
+pub bad_line_excludes : (bytes more : List ℕ) (l : ChunkLine) (rest : List ℕ) → HasBadLine bytes → IsShortLine l → bytes ++ more ≡ print_chunk_line l ++ rest → ⊥
+bad_line_excludes bytes more l rest (inl never) short is = never (drop max_head bytes ++ more) l rest (short.valid, sym (rejoined max_head bytes more) ∙ is)
+bad_line_excludes bytes more l rest (inr none) short is = none.1 l _ (short.valid, shrunk_more max_head bytes more (print_chunk_line l) rest none.0 is short.short)
+
 pub bad_chunk_excludes : (b : ChunkedBody) (bytes more after : List ℕ) → IsChunkedBody b → bytes ++ more ≡ print_chunked b ++ after → HasBadChunk bytes → ⊥
 bad_chunk_excludes b bytes more after vb e (no_line cs mid reads never) =
     let left = behind_chunks b cs bytes mid more after vb reads e in
     let (l, rest, short, is) = some_line left.left b.last (mid ++ more) (section_and b after) left.valid vb.last left.whole in
-    omega (arith, short.short, never more l rest (short.valid, is))
-bad_chunk_excludes b bytes more after vb e (no_line_end cs l content rest reads short size some never) =
+    bad_line_excludes mid more l rest never short is
+bad_chunk_excludes b bytes more after vb e (no_line_end cs l content rest reads short size some fits never) =
     let left = behind_chunks b cs bytes (print_chunk_line l ++ content ++ rest) more after vb reads e in
     let whole : (print_chunk_line l ++ content ++ rest) ++ more ≡ print_chunk_line l ++ (content ++ (rest ++ more)) = regroup (print_chunk_line l) content rest more in
     elim (next_line left.left b.last l ((print_chunk_line l ++ content ++ rest) ++ more) (content ++ (rest ++ more)) (section_and b after) left.valid vb.last short whole left.whole) [
@@ -142,7 +148,14 @@ bad_chunk_excludes b bytes more after vb e (no_line_end cs l content rest reads 
     ]
 bad_chunk_excludes b bytes more after vb e (no_trailer rest r never) =
     let at = behind_last b bytes rest more after vb r e in
-    never more b.trailers b.end after (vb.trailer.valid, at.1)
+    let front = front-front rest in
+    never (front.0 ++ more) b.trailers b.end after (vb.trailer.valid, sym (append_assoc (trailer_front rest) front.0 more) ∙ ap (λ v. v ++ more) (sym front.1) ∙ at.1)
+
+-- a section is none where its front has none
+front_excludes : (b : ChunkedBody) (bytes after : List ℕ) → IsChunkedBody b → bytes ≡ section_and b after → HasNoSection (trailer_front bytes) → ⊥
+front_excludes b bytes after vb e none =
+    let here = front-section bytes b.trailers b.end after vb.trailer.valid vb.trailer.few vb.trailer.short e in
+    none b.trailers b.end here.0 (vb.trailer.valid, here.1)
 
 length_left : (cs others : List Chunk) (c : Chunk) → length (chunk_data cs) + length c.bytes ≤ length (chunk_data (cs ++ c ∷ others))
 length_left cs others c =
@@ -164,12 +177,12 @@ large_chunks_exclude b bytes more after vb fits e large =
 pub large_trailer_excludes : (b : ChunkedBody) (bytes more after : List ℕ) → IsChunkedBody b → bytes ++ more ≡ print_chunked b ++ after → HasLargeTrailer bytes → ⊥
 large_trailer_excludes b bytes more after vb e large =
     let at = behind_last b bytes large.rest more after vb large.reaches e in
-    large.unended b.trailers b.end _ (vb.trailer.valid, shrunk_more max_head large.rest more (print_section b.trailers b.end) after large.full at.1 vb.trailer.short)
+    front_excludes b (large.rest ++ more) after vb at.1 (subst HasNoSection (sym (front-full large.rest more large.full)) large.unended.none)
 
 pub many_trailers_exclude : (b : ChunkedBody) (bytes more after : List ℕ) → IsChunkedBody b → bytes ++ more ≡ print_chunked b ++ after → HasManyTrailers bytes → ⊥
 many_trailers_exclude b bytes more after vb e many =
     let at = behind_last b bytes many.rest more after vb many.reaches e in
-    omega (arith, vb.trailer.few, many.many more b.trailers b.end after (vb.trailer.valid, at.1))
+    front_excludes b (many.rest ++ more) after vb at.1 (subst HasNoSection (sym (front-many many.rest more many.full.many)) many.full.none)
 
 pub lacks_excludes : (b : ChunkedBody) (bytes after : List ℕ) → IsChunkedBody b → bytes ≡ print_chunked b ++ after → LacksChunks bytes → ⊥
 lacks_excludes b bytes after vb e (waiting.line cs mid reads few none may) =
@@ -189,9 +202,9 @@ lacks_excludes b bytes after vb e (waiting.part cs mid more c reads vc fits is s
         let g = front-append mid (print_chunk d) x more (f ∙ append_assoc (print_chunk d) (print_chunks others) (print_chunk_line last ++ tail)) in
         let same = chunk_unique c d (mid ++ more) [] (x ++ more) vc valid.0 (is ∙ sym (append-nil (print_chunk c))) g in
         omega (arith, some, ap length same.1, length-append x more)
-lacks_excludes b bytes after vb e (waiting.trailer rest r few none may) =
+lacks_excludes b bytes after vb e (waiting.trailer rest r few unended) =
     let at = behind_last b bytes rest [] after vb r (append-nil bytes ∙ e) in
-    none b.trailers b.end after (vb.trailer.valid, sym (append-nil rest) ∙ at.1)
+    front_excludes b rest after vb (sym (append-nil rest) ∙ at.1) unended.none
 
 -- ---- one body
 

@@ -5,11 +5,11 @@ use Rattle.httparse.specs.Ascii.{crlf_bytes}
 use Rattle.httparse.specs.Grammar.{print_chunk_line, chunk_size}
 use Rattle.fed_http.specs.Limits.{max_body}
 use Rattle.fed_http.specs.Body.{Chunk, IsChunk, print_chunk, print_chunks, chunk_data, ChunkedBody, IsChunkedBody, print_chunked}
-use Rattle.fed_http.specs.Faults.{ReadsChunks, NeverHasShortLine}
+use Rattle.fed_http.specs.Faults.{ReadsChunks, HasBadLine}
 use Rattle.fed_http.specs.ChunkParts.{IsLineAt, LacksLine, BeginsChunked, HasChunkedBody}
 use Rattle.fed_http.specs.declared.chunks.Line.{Line}
 use Rattle.fed_http.proofs.Windows.{fits_in, behind, front_of, to_end}
-use Rattle.fed_http.proofs.ChunkLemmas.{some_line, next_line, NextLine, the_last, a_chunk, section_and, chunked_parts, chunked_from_parts, chunk_from_line}
+use Rattle.fed_http.proofs.ChunkLemmas.{bad_line_excludes, some_line, next_line, NextLine, the_last, a_chunk, section_and, chunked_parts, chunked_from_parts, chunk_from_line}
 use Rattle.fed_http.proofs.Walks.{pushed, data_pushed}
 
 -- what is left is the rest of a chunked body whose chunks so far have this data
@@ -44,10 +44,10 @@ has_line bytes copied rest k lacks =
     let (l, tail, short, is) = some_line k.left.chunks k.left.last rest (section_and k.left k.after) k.valid.chunks k.valid.last (left_parts bytes copied rest k) in
     lacks.none l tail (short.valid, is)
 
-pub has_short_line : (bytes copied rest : List ℕ) → Copied bytes copied rest → NeverHasShortLine rest → ⊥
+pub has_short_line : (bytes copied rest : List ℕ) → Copied bytes copied rest → HasBadLine rest → ⊥
 has_short_line bytes copied rest k never =
     let (l, tail, short, is) = some_line k.left.chunks k.left.last rest (section_and k.left k.after) k.valid.chunks k.valid.last (left_parts bytes copied rest k) in
-    omega (arith, short.short, never [] l tail (short.valid, append-nil rest ∙ is))
+    bad_line_excludes rest [] l tail never short (append-nil rest ∙ is)
 
 next_of : (bytes copied rest : List ℕ) (found : Line) (k : Copied bytes copied rest) (at : IsLineAt rest found) → NextLine k.left.chunks k.left.last at.line (drop found.len rest) (section_and k.left k.after)
 next_of bytes copied rest found k at =

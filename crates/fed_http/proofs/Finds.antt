@@ -7,11 +7,12 @@ use Rattle.httparse.specs.Spans.{header_bytes, name_and_value}
 use Rattle.httparse.specs.declared.spans.HeaderSpan.{HeaderSpan}
 use Rattle.fed_http.specs.Limits.{max_head}
 use Rattle.fed_http.specs.Framing.{framing_of}
-use Rattle.fed_http.specs.Head.{Head, request, reply, ReadsHead, HasNoHead, MayBecomeHead, IsFinal, IsWithinLimits, head_framing, reply_framing, field_lines, print_head}
-use Rattle.fed_http.specs.HeadParts.{IsHeadAt, IsStartOf, IsUnfinishedHead, HasTooManyFields}
+use Rattle.fed_http.specs.Head.{Head, request, reply, ReadsHead, IsFinal, IsWithinLimits, head_framing, reply_framing, field_lines, print_head}
+use Rattle.fed_http.specs.HeadParts.{IsHeadAt, IsStartOf}
+use Rattle.fed_http.specs.Unfinished.{IsUnfinishedHead}
 use Rattle.fed_http.specs.FoundParts.{framed_or_refused, IsFramedAs, IsBodyAt, LacksBody, IsBodyFault, IsSomeFoundAt}
 use Rattle.fed_http.specs.ChunkParts.{IsChunkedFault}
-use Rattle.fed_http.specs.Faults.{ReachesBody, IsBadHead, no_head, interim, trailers, large_head, large_length, large_chunks, large_trailer, IsBadLength, IsFault}
+use Rattle.fed_http.specs.Faults.{ReachesBody, HasTooManyFields, IsBadHead, no_head, interim, trailers, large_head, large_length, large_chunks, large_trailer, IsBadLength, IsFault}
 use Rattle.fed_http.specs.Waiting.{IsWaiting}
 use Rattle.fed_http.specs.Waiting as waiting
 use Rattle.fed_http.specs.declared.chunks.Extent.{Extent}
@@ -23,7 +24,7 @@ use Rattle.fed_http.specs.declared.head.HeadSpans.{HeadSpans}
 use Rattle.fed_http.specs.declared.head.StartSpans.{StartSpans}
 use Rattle.fed_http.specs.declared.head.StartSpans.TheVariants.{Request, Reply}
 use Rattle.fed_http.specs.declared.message.Kind.{Kind}
-use Rattle.fed_http.proofs.Windows.{grown_at, rejoined, all_of_few, fits_in}
+use Rattle.fed_http.proofs.Windows.{grown_at, all_of_few, fits_in}
 
 -- this fault is told, and for a reason
 abbrev pub IsTold : Kind → List ℕ → HttpFault → Type 0
@@ -31,18 +32,16 @@ IsTold kind bytes fault = (fault ≢ Memory) × IsFault kind bytes fault
 
 -- ---- no head
 
-pub head_never : (kind : Kind) (bytes window : List ℕ) (fault : HttpFault) → window ≡ take max_head bytes → (fault ≡ BadHead) × HasTooManyFields kind window → IsTold kind bytes fault
-head_never kind bytes window fault is (bad, many) =
-    let fact : IsBadHead kind bytes = no_head (λ more h rest reads. many (drop max_head bytes ++ more) h rest (record { valid = reads.valid; whole = ap (λ v. v ++ (drop max_head bytes ++ more)) is ∙ sym (rejoined max_head bytes more) ∙ reads.whole })) in
+pub head_never : (kind : Kind) (bytes front : List ℕ) (fault : HttpFault) → front ≡ take max_head bytes → (fault ≡ BadHead) × HasTooManyFields kind front × ¬ (IsUnfinishedHead kind front) → IsTold kind bytes fault
+head_never kind bytes front fault is (bad, many, over) =
+    let fact : IsBadHead kind bytes = no_head (subst (HasTooManyFields kind) is many) (subst (λ v. ¬ (IsUnfinishedHead kind v)) is over) in
     subst (IsTold kind bytes) (sym bad) ((λ e. cc), fact)
 
-pub head_waits : (kind : Kind) (bytes window : List ℕ) → window ≡ take max_head bytes → length bytes < max_head → IsUnfinishedHead kind window → IsWaiting kind bytes
-head_waits kind bytes window is few u =
-    let same : window ≡ bytes = is ∙ all_of_few max_head bytes few in
-    waiting.head few (subst (HasNoHead kind) same u.0) (subst (MayBecomeHead kind) same u.1)
+pub head_waits : (kind : Kind) (bytes front : List ℕ) → front ≡ take max_head bytes → length bytes < max_head → IsUnfinishedHead kind front → IsWaiting kind bytes
+head_waits kind bytes front is few u = waiting.head few (subst (IsUnfinishedHead kind) (is ∙ all_of_few max_head bytes few) u)
 
-pub head_large : (kind : Kind) (bytes window : List ℕ) → window ≡ take max_head bytes → max_head ≤ length bytes → IsUnfinishedHead kind window → IsTold kind bytes TooLarge
-head_large kind bytes window is full u = ((λ e. cc), large_head full (subst (HasNoHead kind) is u.0))
+pub head_large : (kind : Kind) (bytes front : List ℕ) → front ≡ take max_head bytes → max_head ≤ length bytes → IsUnfinishedHead kind front → IsTold kind bytes TooLarge
+head_large kind bytes front is full u = ((λ e. cc), large_head full (subst (IsUnfinishedHead kind) is u))
 
 -- ---- the framing
 

@@ -7,6 +7,9 @@ pub mod ParameterLists
 pub mod Headers
 mod Windows
 mod Counted
+mod LineCounts
+mod FirstLines
+mod TrailerFronts
 mod Lines
 mod Parts
 mod Walks
@@ -15,8 +18,12 @@ mod Bodies
 mod Values
 mod OnlyValues
 mod HeadsFound
+mod HeadLines
+mod Targets
 mod Finds
 mod Messages
+mod Verdicts
+mod Stays
 mod Settled
 mod Feeds
 mod HeadLemmas

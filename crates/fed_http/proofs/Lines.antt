@@ -1,17 +1,22 @@
 -- Chunk lines and trailers, found in the first bytes.
-use Rattle.std.proofs.Common.{arith, ◌≡◌, ℕ, ◌<◌, ◌≤◌, List, [], ◌∷◌, ◌++◌, length, take, drop, slice_index_or, refl, sym, ap, subst, ◌∙◌, inl, inr}
+use Rattle.std.proofs.Common.{arith, ◌≡◌, ℕ, suc, ◌<◌, ◌≤◌, List, [], ◌∷◌, ◌++◌, length, take, drop, slice_index_or, refl, sym, ap, subst, ◌∙◌, append_assoc, append-nil, length-append, inl, inr}
 use Rattle.std.specs.Prelude.{Result, Ok, Err, IfOk, IfErr, IsErrAnd, Option, Some, None, IfSome, IfNone}
 use Rattle.std.proofs.lemmas.Result.{err_from_is_err_and}
 use Rattle.std.proofs.lemmas.Bool.{cases_lt}
 use Rattle.httparse.specs.Ascii.{crlf_bytes}
-use Rattle.httparse.specs.Grammar.{ChunkLine, print_chunk_line, HasNoChunkLine, NeverHasChunkLine, MayBecomeChunkLine, Field, LineEnd, print_section, HasNoSection, NeverHasSection, MayBecomeSection}
-use Rattle.httparse.specs.Spans.{IsChunkLineAt, IsSectionAt, IsSectionOf, IsSectionWithin, SectionOverflows}
+use Rattle.httparse.specs.Grammar.{ChunkLine, print_chunk_line, HasNoChunkLine, NeverHasChunkLine, MayBecomeChunkLine, Field, LineEnd, lf, print_section, ReadsSection, HasNoSection, NeverHasSection, MayBecomeSection}
+use Rattle.httparse.specs.Spans.{IsChunkLineAt, IsSectionAt, IsSectionOf, IsSectionWithin, SectionExceeds}
 use Rattle.httparse.specs.declared.spans.HeaderSpan.{HeaderSpan}
-use Rattle.fed_http.specs.Limits.{max_head, max_fields}
-use Rattle.fed_http.specs.Faults.{NeverHasShortLine}
-use Rattle.fed_http.specs.ChunkParts.{IsLineAt, LacksLine, IsTrailerAt, LacksTrailer}
+use Rattle.fed_http.specs.Limits.{max_head, max_fields, window}
+use Rattle.fed_http.specs.Lines.{line_feeds}
+use Rattle.fed_http.specs.Unfinished.{IsUnfinishedTrailer, IsFullTrailer, trailer_front}
+use Rattle.fed_http.specs.Faults.{HasBadLine}
+use Rattle.fed_http.specs.ChunkParts.{IsLineAt, LacksLine, IsTrailerAt}
 use Rattle.fed_http.proofs.Counted.{few_fields}
-use Rattle.fed_http.proofs.Windows.{grown_at, short_of, shrunk_more, rejoined, all_of_few, fits_in}
+use Rattle.httparse.proofs.GrammarLemmas.{section_unique, ReadsSection-append}
+use Rattle.fed_http.proofs.Windows.{grown, grown_at, short_of, all_of_few, fits_in, at_len}
+use Rattle.fed_http.proofs.LineCounts.{section_front, section_is, section_feeds, same_front}
+use Rattle.fed_http.proofs.FirstLines.{first-front, first-stops}
 
 pub line_found : (bytes window : List ℕ) (len size : ℕ) → window ≡ take max_head bytes → (l : ChunkLine) × IsChunkLineAt window len size l → IsLineAt bytes (record { len = len; size = size })
 line_found bytes window len size is at =
@@ -29,15 +34,11 @@ line_lacks bytes window is few none may =
     let same : window ≡ bytes = is ∙ all_of_few max_head bytes few in
     record { few = few; none = subst HasNoChunkLine same none; may = subst MayBecomeChunkLine same may }
 
-pub line_full : (bytes window : List ℕ) → window ≡ take max_head bytes → max_head ≤ length bytes → HasNoChunkLine window → NeverHasShortLine bytes
-line_full bytes window is full none more l rest reads = elim (cases_lt max_head (length (print_chunk_line l))) [
-  | inl long ↦ long
-  | inr short ↦ absurd (none l _ (reads.0, is ∙ shrunk_more max_head bytes more (print_chunk_line l) rest full reads.1 short))
-]
+pub line_full : (bytes front : List ℕ) → front ≡ take max_head bytes → max_head ≤ length bytes → HasNoChunkLine front → HasBadLine bytes
+line_full bytes front is full none = inr (full, subst HasNoChunkLine is none)
 
-pub line_never : (bytes window : List ℕ) → window ≡ take max_head bytes → NeverHasChunkLine window → NeverHasShortLine bytes
-line_never bytes window is never more l rest reads =
-    absurd (never (drop max_head bytes ++ more) l rest (reads.0, ap (λ v. v ++ (drop max_head bytes ++ more)) is ∙ sym (rejoined max_head bytes more) ∙ reads.1))
+pub line_never : (bytes front : List ℕ) → front ≡ take max_head bytes → NeverHasChunkLine front → HasBadLine bytes
+line_never bytes front is never = inl (subst NeverHasChunkLine is never)
 
 -- ---- line ends
 
@@ -57,37 +58,70 @@ whole_end (b ∷ c ∷ bytes) some first second = cc
 
 -- ---- trailers
 
-pub trailer_found : (bytes window : List ℕ) (headers : List HeaderSpan) (len count : ℕ) → window ≡ take max_head bytes → length headers ≡ max_fields
-    → IsSectionWithin window headers len count → IsSectionOf window 0 headers (len, count) → IsTrailerAt bytes len
-trailer_found bytes window headers len count is room within at =
+-- what begins the lines that are looked at begins all bytes, and is no longer than a trailer may be
+record IsAtFront (bytes front a r : List ℕ) : Type 0 where
+  rest : List ℕ
+  whole : bytes ≡ a ++ rest
+  short : length a ≤ max_head
+
+at_front : (bytes front a r : List ℕ) → front ≡ trailer_front bytes → front ≡ a ++ r → IsAtFront bytes front a r
+at_front bytes front a r is e =
+    let more = first-front (window bytes) (suc max_fields) in
+    let in_window : window bytes ≡ a ++ (r ++ more.0) = more.1 ∙ ap (λ v. v ++ more.0) (sym is ∙ e) ∙ append_assoc a r more.0 in
+    record {
+      rest = (r ++ more.0) ++ drop max_head bytes;
+      whole = grown max_head bytes a (r ++ more.0) in_window;
+      short = short_of max_head bytes a (r ++ more.0) in_window;
+    }
+
+pub trailer_found : (bytes front : List ℕ) (headers : List HeaderSpan) (len count : ℕ) → front ≡ trailer_front bytes → length headers ≡ max_fields
+    → IsSectionWithin front headers len count → IsSectionOf front 0 headers (len, count) → IsTrailerAt bytes len
+trailer_found bytes front headers len count is room within at =
     let section = print_section at.0 at.1 in
-    let whole : take max_head bytes ≡ section ++ drop len window = sym is ∙ at.2.reads.1 in
+    let here = at_front bytes front section (drop len front) is at.2.reads.1 in
     let len_is : len ≡ length section = omega (arith, at.2.len_is) in
-    let all = grown_at max_head len bytes section (drop len window) whole len_is in
+    let all = at_len bytes section here.rest len here.whole len_is in
     record {
       fields = at.0;
       end = at.1;
-      trailer = record { valid = at.2.reads.0; few = few_of window headers len count at.0 at.1 room within at.2; short = short_of max_head bytes section (drop len window) whole };
+      trailer = record { valid = at.2.reads.0; few = few_of front headers len count at.0 at.1 room within at.2; short = here.short };
       whole = all;
       fits = omega (arith, len_is, fits_in bytes section (drop len bytes) all);
     }
   where
-    few_of : (window : List ℕ) (headers : List HeaderSpan) (len count : ℕ) (fields : List Field) (end : LineEnd) → length headers ≡ max_fields → IsSectionWithin window headers len count
-        → IsSectionAt window 0 headers len count fields end → length fields ≤ max_fields
-    few_of window headers len count fields end room within at = few_fields window headers count fields (omega (arith, within.count_fits, room)) at.fields_are
+    few_of : (front : List ℕ) (headers : List HeaderSpan) (len count : ℕ) (fields : List Field) (end : LineEnd) → length headers ≡ max_fields → IsSectionWithin front headers len count
+        → IsSectionAt front 0 headers len count fields end → length fields ≤ max_fields
+    few_of front headers len count fields end room within at = few_fields front headers count fields (omega (arith, within.count_fits, room)) at.fields_are
 
-pub trailer_lacks : (bytes window : List ℕ) → window ≡ take max_head bytes → length bytes < max_head → HasNoSection window → MayBecomeSection window → LacksTrailer bytes
-trailer_lacks bytes window is few none may =
-    let same : window ≡ bytes = is ∙ all_of_few max_head bytes few in
-    record { few = few; none = subst HasNoSection same none; may = subst MayBecomeSection same may }
+pub trailer_unended : (bytes front : List ℕ) → front ≡ trailer_front bytes → HasNoSection front → MayBecomeSection front → line_feeds front ≤ max_fields → IsUnfinishedTrailer (trailer_front bytes)
+trailer_unended bytes front is none may few = let here : IsUnfinishedTrailer front = record { none = none; may = may; few = few } in subst IsUnfinishedTrailer is here
 
-pub trailer_never : (bytes window : List ℕ) → window ≡ take max_head bytes → NeverHasSection window → NeverHasSection bytes
-trailer_never bytes window is never more fields end rest reads =
-    never (drop max_head bytes ++ more) fields end rest (reads.0, ap (λ v. v ++ (drop max_head bytes ++ more)) is ∙ sym (rejoined max_head bytes more) ∙ reads.1)
+pub trailer_full : (bytes front : List ℕ) → front ≡ trailer_front bytes → HasNoSection front → MayBecomeSection front → max_fields < line_feeds front → IsFullTrailer (trailer_front bytes)
+trailer_full bytes front is none may many = let here : IsFullTrailer front = record { none = none; may = may; many = many } in subst IsFullTrailer is here
 
-pub trailer_overflows : (bytes window : List ℕ) → window ≡ take max_head bytes → SectionOverflows max_fields window → SectionOverflows max_fields bytes
-trailer_overflows bytes window is many more fields end rest reads =
-    many (drop max_head bytes ++ more) fields end rest (reads.0, ap (λ v. v ++ (drop max_head bytes ++ more)) is ∙ sym (rejoined max_head bytes more) ∙ reads.1)
+pub trailer_never : (bytes front : List ℕ) → front ≡ trailer_front bytes → NeverHasSection front → NeverHasSection (trailer_front bytes)
+trailer_never bytes front is never = subst NeverHasSection is never
+
+-- field lines of which there are too many are all the lines that are looked at
+pub trailer_exceeds : (bytes front : List ℕ) → front ≡ trailer_front bytes → SectionExceeds max_fields front → IsFullTrailer (trailer_front bytes)
+trailer_exceeds bytes front is (lines, rest, split, fields, reads, many) =
+    let cut : lines ≡ section_front fields lf = same_front lines (section_front fields lf) 10 10 (reads.1 ∙ append-nil (print_section fields lf) ∙ section_is fields lf) in
+    let count : line_feeds lines ≡ length fields = ap line_feeds cut ∙ section_feeds fields lf reads.0 in
+    let nothing : rest ≡ [] = first-stops (window bytes) lines rest (suc max_fields) (sym is ∙ split) (omega (arith, count, many)) in
+    let all : front ≡ lines = split ∙ ap (λ v. lines ++ v) nothing ∙ append-nil lines in
+    let P : List ℕ → Type 0 = IsFullTrailer in
+    let here : IsFullTrailer lines = record {
+      none = λ gs end after at. no_front lines fields gs end after reads at;
+      may = (10 ∷ [], fields, lf, reads);
+      many = omega (arith, count, many);
+    } in
+    subst P (sym all ∙ is) here
+  where
+    no_front : (lines : List ℕ) (fields gs : List Field) (end : LineEnd) (after : List ℕ) → ReadsSection (lines ++ 10 ∷ []) fields lf [] → ReadsSection lines gs end after → ⊥
+    no_front lines fields gs end after reads at =
+        let longer = ReadsSection-append lines gs end after (10 ∷ []) at in
+        let same = section_unique (lines ++ 10 ∷ []) fields gs lf end [] (after ++ 10 ∷ []) reads longer in
+        omega (arith, ap length same.2, length-append after (10 ∷ []))
 
 -- a call's clause on an error, and on a value, at the one that was found
 pub on_err : {A E : Type 0} {r : Result A E} {e : E} (P : E → Type 0) → r ≡ Err e → IfErr r P → P e

@@ -75,7 +75,7 @@ request_texts kind bytes window headers method target found h is starts at =
 
 -- ---- bodies
 
-pub chunked_begins : (bytes : List ℕ) (found : Extent) → IsChunkedAt bytes found → BeginsChunked bytes
+abbrev pub chunked_begins : (bytes : List ℕ) (found : Extent) → IsChunkedAt bytes found → BeginsChunked bytes
 chunked_begins bytes found at = record { body = at.body; rest = drop found.text bytes; valid = at.valid; fits = omega (arith, at.body_is, at.body_fits); whole = at.whole }
 
 record BodyText (f : Framing) (bytes : List ℕ) (len : ℕ) (body : List ℕ) : Type 0 where

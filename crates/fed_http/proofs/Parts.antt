@@ -65,10 +65,10 @@ part_unended bytes behind tail found room at some fits is enough cut (more, ends
     three : (a b c d : List ℕ) → (a ++ (b ++ c)) ++ d ≡ a ++ b ++ (c ++ d)
     three a b c d = simp append_assoc
 
-pub part_never : (bytes behind tail : List ℕ) (found : Line) → IsLineAt bytes found → found.size ≢ 0 → behind ≡ drop found.len bytes → found.size ≤ length behind
-    → tail ≡ drop found.size behind → NeverHasLineEnd tail → HasBadPart bytes
-part_never bytes behind tail found at some is enough cut never =
+pub part_never : (bytes behind tail : List ℕ) (found : Line) (room : ℕ) → IsLineAt bytes found → found.size ≢ 0 → found.size ≤ room → behind ≡ drop found.len bytes → found.size ≤ length behind
+    → tail ≡ drop found.size behind → NeverHasLineEnd tail → HasBadPart bytes room
+part_never bytes behind tail found room at some fits is enough cut never =
     let content = take found.size behind in
     let size : length content ≡ found.size = length-take-le found.size behind enough in
     let whole : bytes ≡ print_chunk_line at.line ++ content ++ tail = parts_of bytes behind tail found at is cut ∙ sym (append_assoc (print_chunk_line at.line) content tail) in
-    no_line_end at.line content tail whole at.short (sym at.size ∙ sym size) (omega (arith, some, size)) never
+    no_line_end at.line content tail whole at.short (sym at.size ∙ sym size) (omega (arith, some, size)) (omega (arith, size, fits)) never

@@ -1,5 +1,5 @@
 -- Texts are read in one way, and no fault is told of the beginning of one.
-use Rattle.std.proofs.Common.{arith, ◌≡◌, ◌≢◌, ℕ, ◌≤◌, List, [], ◌++◌, length, refl, sym, ap, subst, ◌∙◌, append_assoc, length-append, Some, None}
+use Rattle.std.proofs.Common.{arith, ◌≡◌, ◌≢◌, ℕ, ◌≤◌, List, [], ◌++◌, length, drop, refl, sym, ap, subst, ◌∙◌, append_assoc, length-append, Some, None}
 use Rattle.std.proofs.lemmas.List.{append-nil}
 use Rattle.fed_http.specs.Limits.{max_head, max_body}
 use Rattle.fed_http.specs.Head.{Head, reply, ReadsHead, IsFinal, print_head, head_framing, message_of}
@@ -14,7 +14,7 @@ use Rattle.fed_http.specs.declared.framing.Framing.{Framing}
 use Rattle.fed_http.specs.declared.framing.Framing.TheVariants.{NoBody, Fixed, Chunked}
 use Rattle.fed_http.specs.declared.message.Kind.{Kind}
 use Rattle.fed_http.specs.declared.message.Message.{Message}
-use Rattle.fed_http.proofs.Windows.{split_same, shrunk_more}
+use Rattle.fed_http.proofs.Windows.{split_same, shrunk_more, rejoined}
 use Rattle.fed_http.proofs.HeadLemmas.{head_unique, ReadsHead-append}
 use Rattle.fed_http.proofs.ChunkLemmas.{bad_chunk_excludes, large_chunks_exclude, large_trailer_excludes, many_trailers_exclude, lacks_excludes, chunked_unique}
 
@@ -78,7 +78,9 @@ chunked_rest : (x rest more after text : List ℕ) → rest ++ more ≡ text ++ 
 chunked_rest x rest more after text e f = e ∙ ap (λ v. v ++ after) f
 
 bad_head_excludes : (kind : Kind) (m : Message) (bytes more text after : List ℕ) → IsText kind m text → bytes ++ more ≡ text ++ after → IsBadHead kind bytes → ⊥
-bad_head_excludes kind m bytes more text after t e (no_head many) = omega (arith, t.within.few, many more t.head (t.body_text ++ after) (text_head kind m text after (bytes ++ more) t e))
+bad_head_excludes kind m bytes more text after t e (no_head many unless) =
+    let head = text_head kind m text after (bytes ++ more) t e in
+    omega (arith, t.within.few, many (drop max_head bytes ++ more) t.head (t.body_text ++ after) (record { valid = t.valid; whole = sym (rejoined max_head bytes more) ∙ head.whole }))
 bad_head_excludes kind m bytes more text after t e (interim h rest reads within low) =
     let same = same_head kind m bytes more text after rest (reply h) t reads e in
     let final = subst IsFinal same.0 t.final in
@@ -88,9 +90,9 @@ bad_head_excludes kind m bytes more text after t e (trailers rest at many) =
     many_trailers_exclude body.0.0 rest more after body.0.1 (chunked_rest (print_chunked body.0.0) rest more after t.body_text body.1 body.0.3) many
 
 too_large_excludes : (kind : Kind) (m : Message) (bytes more text after : List ℕ) → IsText kind m text → bytes ++ more ≡ text ++ after → IsTooLarge kind bytes → ⊥
-too_large_excludes kind m bytes more text after t e (large_head full none) =
+too_large_excludes kind m bytes more text after t e (large_head full unended) =
     let head = text_head kind m text after (bytes ++ more) t e in
-    none t.head _ (record { valid = t.valid; whole = shrunk_more max_head bytes more (print_head t.head) (t.body_text ++ after) full head.whole t.within.short })
+    unended.none t.head _ (record { valid = t.valid; whole = shrunk_more max_head bytes more (print_head t.head) (t.body_text ++ after) full head.whole t.within.short })
 too_large_excludes kind m bytes more text after t e (large_length n rest at large) =
     let body = same_body kind m bytes more text after rest (Fixed n) t at e in
     omega (arith, large, t.body_fits, body.0.0)
@@ -127,7 +129,7 @@ pub fault_has_no_text : (kind : Kind) (bytes : List ℕ) (fault : HttpFault) →
 fault_has_no_text kind bytes fault other is = subst (HasNoText kind) (append-nil bytes) (fault_excludes kind bytes fault other is [])
 
 pub waiting_has_no_text : (kind : Kind) (bytes : List ℕ) → IsWaiting kind bytes → HasNoText kind bytes
-waiting_has_no_text kind bytes (waiting.head few none may) m text rest t e = none t.head (t.body_text ++ rest) (text_head kind m text rest bytes t e)
+waiting_has_no_text kind bytes (waiting.head few unended) m text rest t e = unended.none t.head (t.body_text ++ rest) (text_head kind m text rest bytes t e)
 waiting_has_no_text kind bytes (waiting.body n tail at fits few) m text rest t e =
     let body = same_body kind m bytes [] text rest tail (Fixed n) t at (append-nil bytes ∙ e) in
     omega (arith, few, body.0.0, ap length body.0.1, ap length (sym (append-nil tail) ∙ body.1), length-append t.body_text rest)

@@ -100,11 +100,11 @@ walk_lacks bytes rest body text w is (parts.line lacks) = waiting.line w.chunks 
 walk_lacks bytes rest body text w is (parts.rest more c valid fits whole some) =
     waiting.part w.chunks rest more c (rest_reads bytes rest body text w is) valid (omega (arith, w.body_is, w.body_fits, fits)) whole some
 
-pub walk_bad : (bytes rest : List ℕ) (body text : ℕ) → Walked bytes body text → rest ≡ drop text bytes → HasBadPart rest → HasBadChunk bytes
+pub walk_bad : (bytes rest : List ℕ) (body text : ℕ) → Walked bytes body text → rest ≡ drop text bytes → HasBadPart rest (max_body - body) → HasBadChunk bytes
 walk_bad bytes rest body text w is (parts.no_line never) = no_line w.chunks rest (rest_reads bytes rest body text w is) never
-walk_bad bytes rest body text w is (parts.no_line_end l content tail whole short size some never) =
+walk_bad bytes rest body text w is (parts.no_line_end l content tail whole short size some fits never) =
     let at = rest_reads bytes rest body text w is in
-    no_line_end w.chunks l content tail (record { valid = at.valid; fits = at.fits; whole = at.whole ∙ ap (λ v. print_chunks w.chunks ++ v) whole }) short size some never
+    no_line_end w.chunks l content tail (record { valid = at.valid; fits = at.fits; whole = at.whole ∙ ap (λ v. print_chunks w.chunks ++ v) whole }) short size some (omega (arith, w.body_is, w.body_fits, fits)) never
 
 pub walk_large : (bytes rest : List ℕ) (body text : ℕ) → Walked bytes body text → rest ≡ drop text bytes → HasLargePart rest (max_body - body) → HasLargeChunks bytes
 walk_large bytes rest body text w is large =

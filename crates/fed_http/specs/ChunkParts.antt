@@ -1,12 +1,12 @@
 -- What the parts of a chunked body are found to be.
-use Rattle.std.specs.Prelude.{◌≡◌, ℕ, ◌<◌, ◌≤◌, ◌⊎◌, List, ◌++◌, length, take, drop}
+use Rattle.std.specs.Prelude.{◌≡◌, ℕ, ◌<◌, ◌≤◌, ◌⊎◌, List, ◌++◌, length, drop}
 use Rattle.httparse.specs.Ascii.{crlf_bytes}
-use Rattle.httparse.specs.Grammar.{ChunkLine, print_chunk_line, chunk_size, Field, print_section, HasNoChunkLine, MayBecomeChunkLine, HasNoSection, NeverHasSection, MayBecomeSection}
+use Rattle.httparse.specs.Grammar.{ChunkLine, print_chunk_line, chunk_size, Field, print_section, HasNoChunkLine, MayBecomeChunkLine, NeverHasSection}
 use Rattle.httparse.specs.Grammar.{LineEnd as SectionEnd}
-use Rattle.httparse.specs.Spans.{SectionOverflows}
-use Rattle.fed_http.specs.Limits.{max_head, max_fields, max_body}
+use Rattle.fed_http.specs.Limits.{max_head, max_body}
+use Rattle.fed_http.specs.Unfinished.{IsUnfinishedTrailer, IsFullTrailer, trailer_front}
 use Rattle.fed_http.specs.Body.{Chunk, IsChunk, IsShortLine, IsLastLine, IsTrailer, print_chunk, chunk_data, ChunkedBody, IsChunkedBody, print_chunked}
-use Rattle.fed_http.specs.Faults.{ReachesTrailer, NeverHasShortLine, NeverHasLineEnd, HasBadChunk, HasLargeChunks, HasLargeTrailer, HasManyTrailers}
+use Rattle.fed_http.specs.Faults.{ReachesTrailer, HasBadLine, NeverHasLineEnd, HasBadChunk, HasLargeChunks, HasLargeTrailer, HasManyTrailers}
 use Rattle.fed_http.specs.declared.chunks.Line.{Line}
 use Rattle.fed_http.specs.declared.chunks.Part.{Part}
 use Rattle.fed_http.specs.declared.chunks.Part.TheVariants as parts
@@ -65,10 +65,10 @@ IsPartAt bytes room (parts.Chunk size len) = IsChunkAt bytes room size len
 IsPartAt bytes room (parts.Last len) = IsLastAt bytes len
 IsPartAt bytes room parts.Unfinished = LacksPart bytes room
 
-pub data HasBadPart (bytes : List ℕ) : Type 0 where
-  no_line : NeverHasShortLine bytes → HasBadPart bytes
+pub data HasBadPart (bytes : List ℕ) (room : ℕ) : Type 0 where
+  no_line : HasBadLine bytes → HasBadPart bytes room
   no_line_end : (l : ChunkLine) (content rest : List ℕ) → bytes ≡ print_chunk_line l ++ content ++ rest
-      → IsShortLine l → chunk_size l ≡ length content → 0 < length content → NeverHasLineEnd rest → HasBadPart bytes
+      → IsShortLine l → chunk_size l ≡ length content → 0 < length content → length content ≤ room → NeverHasLineEnd rest → HasBadPart bytes room
 
 -- the line of a chunk that is larger than the room
 pub record HasLargePart (bytes : List ℕ) (room : ℕ) : Type 0 where
@@ -83,7 +83,7 @@ IsPartFault bytes room Memory = ⊥
 IsPartFault bytes room BadHead = ⊥
 IsPartFault bytes room TooLarge = HasLargePart bytes room
 IsPartFault bytes room BadLength = ⊥
-IsPartFault bytes room BadChunk = HasBadPart bytes
+IsPartFault bytes room BadChunk = HasBadPart bytes room
 IsPartFault bytes room HasFailed = ⊥
 
 -- ---- all chunks
@@ -113,15 +113,14 @@ pub record IsTrailerAt (bytes : List ℕ) (len : ℕ) : Type 0 where
 
 pub record LacksTrailer (bytes : List ℕ) : Type 0 where
   pub few : length bytes < max_head
-  pub none : HasNoSection bytes
-  pub may : MayBecomeSection bytes
+  pub unended : IsUnfinishedTrailer (trailer_front bytes)
 
 abbrev pub IsTrailerFault : List ℕ → HttpFault → Type 0
 IsTrailerFault bytes Memory = ⊥
-IsTrailerFault bytes BadHead = SectionOverflows max_fields bytes
-IsTrailerFault bytes TooLarge = (max_head ≤ length bytes) × HasNoSection (take max_head bytes)
+IsTrailerFault bytes BadHead = IsFullTrailer (trailer_front bytes)
+IsTrailerFault bytes TooLarge = (max_head ≤ length bytes) × IsUnfinishedTrailer (trailer_front bytes)
 IsTrailerFault bytes BadLength = ⊥
-IsTrailerFault bytes BadChunk = NeverHasSection bytes
+IsTrailerFault bytes BadChunk = NeverHasSection (trailer_front bytes)
 IsTrailerFault bytes HasFailed = ⊥
 
 -- ---- the body

@@ -1,11 +1,11 @@
--- Why bytes begin no message: one fact for each fault.
-use Rattle.std.specs.Prelude.{◌≡◌, ℕ, ◌+◌, ◌<◌, ◌≤◌, List, ◌++◌, length, take, Some, None, ⊤}
+-- Why bytes begin no message: one fact for each fault, of which at most one holds of any bytes. Bytes past a limit are not looked at.
+use Rattle.std.specs.Prelude.{◌≡◌, ℕ, ◌+◌, ◌<◌, ◌≤◌, ◌⊎◌, List, ◌++◌, length, Some, None, ⊤}
 use Rattle.std.specs.List.{AllByRecursion}
 use Rattle.httparse.specs.Ascii.{crlf_bytes}
-use Rattle.httparse.specs.Grammar.{ChunkLine, ReadsChunkLine, print_chunk_line, chunk_size, ResponseHead, status_code, HasNoSection, NeverHasSection}
-use Rattle.httparse.specs.Spans.{SectionOverflows}
-use Rattle.fed_http.specs.Limits.{max_head, max_fields, max_body}
-use Rattle.fed_http.specs.Head.{Head, reply, ReadsHead, HasNoHead, field_lines, IsWithinLimits, IsFinal, head_framing}
+use Rattle.httparse.specs.Grammar.{ChunkLine, print_chunk_line, chunk_size, HasNoChunkLine, NeverHasChunkLine, ResponseHead, status_code, NeverHasSection}
+use Rattle.fed_http.specs.Limits.{max_head, max_fields, max_body, window}
+use Rattle.fed_http.specs.Unfinished.{IsUnfinishedHead, IsUnfinishedTrailer, IsFullTrailer, trailer_front}
+use Rattle.fed_http.specs.Head.{Head, reply, ReadsHead, field_lines, IsWithinLimits, IsFinal, head_framing}
 use Rattle.fed_http.specs.Body.{Chunk, IsChunk, IsShortLine, IsLastLine, print_chunks, chunk_data}
 use Rattle.fed_http.specs.declared.fault.HttpFault.{HttpFault}
 use Rattle.fed_http.specs.declared.fault.HttpFault.TheVariants.{Memory, BadHead, TooLarge, BadLength, BadChunk, HasFailed}
@@ -38,20 +38,21 @@ pub record ReachesTrailer (bytes rest : List ℕ) : Type 0 where
 
 -- ---- the bytes of a chunked body
 
--- whatever bytes follow, a chunk line at the front is too long
-abbrev pub NeverHasShortLine : List ℕ → Type 0
-NeverHasShortLine bytes = (more : List ℕ) (l : ChunkLine) (rest : List ℕ) → ReadsChunkLine (bytes ++ more) l rest → max_head < length (print_chunk_line l)
+-- the first bytes are no chunk line, whatever follows, or they are all that one may have and none is there
+abbrev pub HasBadLine : List ℕ → Type 0
+HasBadLine bytes = NeverHasChunkLine (window bytes) ⊎ ((max_head ≤ length bytes) × HasNoChunkLine (window bytes))
 
 -- whatever bytes follow, the front is not CR LF
 abbrev pub NeverHasLineEnd : List ℕ → Type 0
 NeverHasLineEnd bytes = (more rest : List ℕ) → ¬ (bytes ++ more ≡ crlf_bytes ++ rest)
 
--- after some chunks comes no chunk line, or data that CR LF does not follow, or no trailer section (RFC 9112, section 7.1)
+-- After some chunks comes no chunk line, or data within the limit that CR LF does not follow, or what is no trailer section, whatever
+-- follows (RFC 9112, section 7.1).
 pub data HasBadChunk (bytes : List ℕ) : Type 0 where
-  no_line : (chunks : List Chunk) (rest : List ℕ) → ReadsChunks bytes chunks rest → NeverHasShortLine rest → HasBadChunk bytes
+  no_line : (chunks : List Chunk) (rest : List ℕ) → ReadsChunks bytes chunks rest → HasBadLine rest → HasBadChunk bytes
   no_line_end : (chunks : List Chunk) (l : ChunkLine) (content rest : List ℕ) → ReadsChunks bytes chunks (print_chunk_line l ++ content ++ rest)
-      → IsShortLine l → chunk_size l ≡ length content → 0 < length content → NeverHasLineEnd rest → HasBadChunk bytes
-  no_trailer : (rest : List ℕ) → ReachesTrailer bytes rest → NeverHasSection rest → HasBadChunk bytes
+      → IsShortLine l → chunk_size l ≡ length content → 0 < length content → length (chunk_data chunks) + length content ≤ max_body → NeverHasLineEnd rest → HasBadChunk bytes
+  no_trailer : (rest : List ℕ) → ReachesTrailer bytes rest → NeverHasSection (trailer_front rest) → HasBadChunk bytes
 
 -- some chunks and the one whose line comes then are over the limit together
 pub record HasLargeChunks (bytes : List ℕ) : Type 0 where
@@ -62,31 +63,36 @@ pub record HasLargeChunks (bytes : List ℕ) : Type 0 where
   pub short : IsShortLine line
   pub large : max_body < length (chunk_data chunks) + chunk_size line
 
--- so many bytes of a trailer are there that it is too large
+-- as many bytes of a trailer are there as it may have, and it may end yet
 pub record HasLargeTrailer (bytes : List ℕ) : Type 0 where
   pub rest : List ℕ
   pub reaches : ReachesTrailer bytes rest
   pub full : max_head ≤ length rest
-  pub unended : HasNoSection (take max_head rest)
+  pub unended : IsUnfinishedTrailer (trailer_front rest)
 
--- whatever bytes follow, a trailer has too many fields
+-- as many lines of a trailer are there as it may have, each of them one of a field
 pub record HasManyTrailers (bytes : List ℕ) : Type 0 where
   pub rest : List ℕ
   pub reaches : ReachesTrailer bytes rest
-  pub many : SectionOverflows max_fields rest
+  pub full : IsFullTrailer (trailer_front rest)
 
 -- ---- the faults
 
--- No head can be there, whatever bytes follow, but one with too many fields; or the head is that of an interim reply; or the trailer
--- has too many fields.
+-- whatever bytes follow, a head has too many fields
+abbrev pub HasTooManyFields : Kind → List ℕ → Type 0
+HasTooManyFields kind bytes = (more : List ℕ) (h : Head) (rest : List ℕ) → ReadsHead kind (bytes ++ more) h rest → max_fields < length (field_lines h)
+
+-- The first bytes are no head and no beginning of one, but of such with too many fields; or the head is that of an interim reply; or the
+-- trailer has too many fields.
 pub data IsBadHead (kind : Kind) (bytes : List ℕ) : Type 0 where
-  no_head : ((more : List ℕ) (h : Head) (rest : List ℕ) → ReadsHead kind (bytes ++ more) h rest → max_fields < length (field_lines h)) → IsBadHead kind bytes
+  no_head : HasTooManyFields kind (window bytes) → ¬ (IsUnfinishedHead kind (window bytes)) → IsBadHead kind bytes
   interim : (h : ResponseHead) (rest : List ℕ) → ReadsHead kind bytes (reply h) rest → IsWithinLimits (reply h) → status_code h < 200 → IsBadHead kind bytes
   trailers : (rest : List ℕ) → ReachesBody kind bytes Chunked rest → HasManyTrailers rest → IsBadHead kind bytes
 
--- So many bytes are there that the head is too large; or the length that the head gives is; or the chunks or the trailer are.
+-- As many bytes are there as a head may have, and it may end yet; or the length that the head gives is too large; or the chunks or the
+-- trailer are.
 pub data IsTooLarge (kind : Kind) (bytes : List ℕ) : Type 0 where
-  large_head : max_head ≤ length bytes → HasNoHead kind (take max_head bytes) → IsTooLarge kind bytes
+  large_head : max_head ≤ length bytes → IsUnfinishedHead kind (window bytes) → IsTooLarge kind bytes
   large_length : (n : ℕ) (rest : List ℕ) → ReachesBody kind bytes (Fixed n) rest → max_body < n → IsTooLarge kind bytes
   large_chunks : (rest : List ℕ) → ReachesBody kind bytes Chunked rest → HasLargeChunks rest → IsTooLarge kind bytes
   large_trailer : (rest : List ℕ) → ReachesBody kind bytes Chunked rest → HasLargeTrailer rest → IsTooLarge kind bytes
@@ -113,7 +119,7 @@ pub record IsBadChunk (kind : Kind) (bytes : List ℕ) : Type 0 where
   pub reaches : ReachesBody kind bytes Chunked rest
   pub bad : HasBadChunk rest
 
--- what a fault says of the bytes
+-- what a fault says of the bytes: of any bytes one says it at most, and it stays whatever follows
 abbrev pub IsFault : Kind → List ℕ → HttpFault → Type 0
 IsFault kind bytes Memory = ⊤
 IsFault kind bytes BadHead = IsBadHead kind bytes

@@ -1,10 +1,9 @@
 -- What the offsets of a head say of its bytes.
-use Rattle.std.specs.Prelude.{◌≡◌, ℕ, ◌<◌, ◌≤◌, List, ◌++◌, length, take, drop, All}
+use Rattle.std.specs.Prelude.{◌≡◌, ℕ, ◌<◌, ◌≤◌, List, length, take, drop, All}
 use Rattle.httparse.specs.Spans.{span_bytes, IsWithin, IsHeaderWithin, AreFieldsAt}
 use Rattle.httparse.specs.Grammar.{status_code}
 use Rattle.httparse.specs.declared.spans.HeaderSpan.{HeaderSpan}
-use Rattle.fed_http.specs.Limits.{max_fields}
-use Rattle.fed_http.specs.Head.{Head, request, reply, ReadsHead, IsWithinLimits, HasNoHead, MayBecomeHead, print_head, field_lines}
+use Rattle.fed_http.specs.Head.{Head, request, reply, ReadsHead, IsWithinLimits, print_head, field_lines}
 use Rattle.fed_http.specs.declared.head.HeadSpans.{HeadSpans}
 use Rattle.fed_http.specs.declared.head.StartSpans.{StartSpans}
 use Rattle.fed_http.specs.declared.head.StartSpans.TheVariants.{Request, Reply}
@@ -36,11 +35,3 @@ pub record IsHeadAt (kind : Kind) (bytes : List ℕ) (headers : List HeaderSpan)
 
 abbrev pub IsSomeHeadAt : Kind → List ℕ → List HeaderSpan → HeadSpans → Type 0
 IsSomeHeadAt kind bytes headers spans = (h : Head) × IsHeadAt kind bytes headers spans h
-
--- no head is there, and one may be yet
-abbrev pub IsUnfinishedHead : Kind → List ℕ → Type 0
-IsUnfinishedHead kind bytes = HasNoHead kind bytes × MayBecomeHead kind bytes
-
--- whatever bytes follow, a head has too many fields
-abbrev pub HasTooManyFields : Kind → List ℕ → Type 0
-HasTooManyFields kind bytes = (more : List ℕ) (h : Head) (rest : List ℕ) → ReadsHead kind (bytes ++ more) h rest → max_fields < length (field_lines h)

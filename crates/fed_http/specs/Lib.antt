@@ -11,11 +11,14 @@ pub mod FramingParts
 pub mod Head
 pub mod HeadParts
 pub mod Limits
+pub mod LineParts
+pub mod Lines
 pub mod Message
 pub mod Reader
 pub mod ReplyParts
 pub mod Streams
 pub mod Text
+pub mod Unfinished
 pub mod Waiting
 pub mod Sending
 pub mod Signing

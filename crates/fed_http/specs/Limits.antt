@@ -1,5 +1,5 @@
 -- How large a message may be, where its standard sets no limit (RFC 9112, sections 2.3, 5.4 and 7.1.1; RFC 9110, section 5.4).
-use Rattle.std.specs.Prelude.{ℕ}
+use Rattle.std.specs.Prelude.{ℕ, List, take}
 
 -- the most bytes of a head, of a trailer, and of a chunk line with its line end
 abbrev pub max_head : ℕ
@@ -16,3 +16,7 @@ max_body = 16777216
 -- the most digits of a body's length
 abbrev pub max_length_digits : ℕ
 max_length_digits = 19
+
+-- the first bytes, in which a head, a trailer or a chunk line is looked for
+abbrev pub window : List ℕ → List ℕ
+window bytes = take max_head bytes

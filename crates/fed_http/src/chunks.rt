@@ -2,11 +2,12 @@
 ghost use Rattle.std.specs.Prelude.{◌≡◌, ◌≤◌, IfOk, IfSome, IfNone, IfErr};
 ghost use Rattle.fed_http.specs.Limits.{max_body};
 ghost use Rattle.fed_http.specs.ChunkParts.{IsLineAt, LacksLine, IsPartAt, IsPartFault, IsChunksEnd, IsTrailerAt, LacksTrailer, IsTrailerFault, IsChunkedAt, BeginsChunked, HasChunkedBody, IsChunkedFault, IsWalkFault, LineEndOf};
-ghost use Rattle.fed_http.specs.Faults.{NeverHasShortLine};
+ghost use Rattle.fed_http.specs.Faults.{HasBadLine};
 ghost use Rattle.fed_http.specs.Waiting.{LacksChunks};
 
 use crate::fault::HttpFault;
 use crate::limits::{MAX_BODY, MAX_FIELDS, MAX_HEAD, window};
+use crate::unfinished::{first_lines, line_feeds};
 use fed_json::NoMemory;
 use httparse::spans::{EMPTY_HEADER_SPAN, parse_headers};
 use httparse::{Error, Status, parse_chunk_size};
@@ -140,7 +141,7 @@ fn find_part(bytes: &[u8], room: usize) -> Result<Part, HttpFault>
 fn find_line(bytes: &[u8]) -> Result<Option<Line>, HttpFault>
     ensures found { IfOk result (λ found. IfSome found (IsLineAt bytes.now)) }
     ensures unfinished { IfOk result (λ found. IfNone found (LacksLine bytes.now)) }
-    ensures bad { IfErr result (λ fault. (fault ≡ HttpFault.BadChunk) × NeverHasShortLine bytes.now) }
+    ensures bad { IfErr result (λ fault. (fault ≡ HttpFault.BadChunk) × HasBadLine bytes.now) }
 {
     match parse_chunk_size(window(bytes)) {
         Ok(Status::Complete((len, size))) => Ok(Some(Line { len, size })),
@@ -177,15 +178,17 @@ fn line_end(bytes: &[u8]) -> LineEnd
     }
 }
 
-// How many bytes the trailer section at the front of the bytes has.
+// How many bytes the trailer section at the front of the bytes has. Of its lines so many are looked at as it may have.
 fn find_trailer(bytes: &[u8]) -> Result<Option<usize>, HttpFault>
     ensures found { IfOk result (λ found. IfSome found (IsTrailerAt bytes.now)) }
     ensures unfinished { IfOk result (λ found. IfNone found (LacksTrailer bytes.now)) }
     ensures fault { IfErr result (IsTrailerFault bytes.now) }
 {
     let mut fields = [EMPTY_HEADER_SPAN; MAX_FIELDS];
-    match parse_headers(window(bytes), &mut fields) {
+    let front = first_lines(window(bytes), MAX_FIELDS + 1);
+    match parse_headers(front, &mut fields) {
         Ok(Status::Complete((len, _))) => Ok(Some(len)),
+        Ok(Status::Partial) if line_feeds(front) > MAX_FIELDS => Err(HttpFault::BadHead),
         Ok(Status::Partial) if bytes.len() < MAX_HEAD => Ok(None),
         Ok(Status::Partial) => Err(HttpFault::TooLarge),
         Err(error) if error == Error::TooManyHeaders => Err(HttpFault::BadHead),

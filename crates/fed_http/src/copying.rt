@@ -1,8 +1,9 @@
 // From the bytes of a message to its owned parts.
-ghost use Rattle.std.specs.Prelude.{◌≡◌, ◌+◌, Err, IfOk, IfErr, IfSome, IfNone, All, IsUtf8, string_bytes, length, map};
+ghost use Rattle.std.specs.Prelude.{◌≡◌, ◌≢◌, ◌+◌, Err, IfOk, IfErr, IfSome, IfNone, All, IsUtf8, string_bytes, length, map};
 ghost use Rattle.httparse.specs.Spans.{IsWithin, IsHeaderWithin, header_bytes, span_bytes};
 ghost use Rattle.fed_http.specs.CopyParts.{IsMessageAt, AreNamed, HasBody};
-ghost use Rattle.fed_http.specs.Faults.{IsFault, IsBadLength, HasLargeLength};
+ghost use Rattle.fed_http.specs.Faults.{IsFault};
+ghost use Rattle.fed_http.specs.declared.fault.HttpFault.{HttpFault};
 ghost use Rattle.fed_http.specs.FoundParts.{IsSomeFoundAt, IsBodyAt};
 ghost use Rattle.fed_http.specs.Waiting.{IsWaiting};
 
@@ -29,8 +30,7 @@ pub fn read(alloc: Global, kind: Kind, bytes: &[u8]) -> Result<Option<(Message, 
     ensures read { IfOk result (λ read. IfSome read (λ read. IsMessageAt kind bytes.now read.0 read.1)) }
     ensures waiting { IfOk result (λ read. IfNone read (IsWaiting kind bytes.now)) }
     ensures fault { IfErr result (IsFault kind bytes.now) }
-    ensures bad_length { IsBadLength kind bytes.now → result ≡ Err HttpFault.BadLength }
-    ensures large { HasLargeLength kind bytes.now → result ≡ Err HttpFault.TooLarge }
+    ensures told { (fault : HttpFault) → fault ≢ HttpFault.Memory → IsFault kind bytes.now fault → result ≡ Err fault }
 {
     let mut fields = [EMPTY_HEADER_SPAN; MAX_FIELDS];
     let Some(found) = find_message(kind, bytes, &mut fields)? else {

@@ -1,10 +1,15 @@
 // Where the head of a message is.
-ghost use Rattle.std.specs.Prelude.{◌≡◌, ◌≤◌, length, IfOk, IfSome, IfNone, IfErr};
+ghost use Rattle.std.specs.Prelude.{◌≡◌, ◌↔◌, ◌≤◌, suc, length, IsTrue, IfOk, IfSome, IfNone, IfErr};
 ghost use Rattle.fed_http.specs.Limits.{max_head, max_fields};
-ghost use Rattle.fed_http.specs.HeadParts.{IsSomeHeadAt, IsUnfinishedHead, HasTooManyFields};
+ghost use Rattle.fed_http.specs.HeadParts.{IsSomeHeadAt};
+ghost use Rattle.fed_http.specs.Faults.{HasTooManyFields};
+ghost use Rattle.fed_http.specs.Lines.{head_lines};
+ghost use Rattle.fed_http.specs.Unfinished.{IsUnfinishedHead};
 
 use crate::fault::HttpFault;
+use crate::limits::MAX_FIELDS;
 use crate::message::Kind;
+use crate::unfinished::{ends_in_target, head_lines};
 use httparse::Status;
 use httparse::spans::{HeaderSpan, Span, parse_request, parse_response};
 
@@ -29,7 +34,8 @@ pub enum StartSpans {
 ///
 /// # Errors
 ///
-/// `BadHead` where no head with so few fields can be there, whatever bytes follow.
+/// `BadHead` where no head with so few fields can be there, whatever bytes follow. What `httparse` leaves open is decided here: of a head
+/// that has too many lines and no end, and of one that ends inside its target.
 pub fn find_head(
     kind: Kind,
     bytes: &[u8],
@@ -39,7 +45,7 @@ pub fn find_head(
     requires room { length fields.old ≡ max_fields }
     ensures found { IfOk result (λ found. IfSome found (IsSomeHeadAt kind bytes.now fields.new)) }
     ensures unfinished { IfOk result (λ found. IfNone found (IsUnfinishedHead kind bytes.now)) }
-    ensures bad { IfErr result (λ fault. (fault ≡ HttpFault.BadHead) × HasTooManyFields kind bytes.now) }
+    ensures bad { IfErr result (λ fault. (fault ≡ HttpFault.BadHead) × HasTooManyFields kind bytes.now × ¬ (IsUnfinishedHead kind bytes.now)) }
 {
     match kind {
         Kind::Requests => find_request(bytes, fields),
@@ -52,7 +58,7 @@ fn find_request(bytes: &[u8], fields: &mut [HeaderSpan]) -> Result<Option<HeadSp
     requires room { length fields.old ≡ max_fields }
     ensures found { IfOk result (λ found. IfSome found (IsSomeHeadAt Kind.Requests bytes.now fields.new)) }
     ensures unfinished { IfOk result (λ found. IfNone found (IsUnfinishedHead Kind.Requests bytes.now)) }
-    ensures bad { IfErr result (λ fault. (fault ≡ HttpFault.BadHead) × HasTooManyFields Kind.Requests bytes.now) }
+    ensures bad { IfErr result (λ fault. (fault ≡ HttpFault.BadHead) × HasTooManyFields Kind.Requests bytes.now × ¬ (IsUnfinishedHead Kind.Requests bytes.now)) }
 {
     match parse_request(bytes, fields) {
         Ok(Status::Complete(spans)) => Ok(Some(HeadSpans {
@@ -63,7 +69,9 @@ fn find_request(bytes: &[u8], fields: &mut [HeaderSpan]) -> Result<Option<HeadSp
             fields: spans.headers,
             len: spans.len,
         })),
-        Ok(Status::Partial) => Ok(None),
+        Ok(Status::Partial) if has_room(bytes) => Ok(None),
+        Ok(Status::Partial) => Err(HttpFault::BadHead),
+        Err(_) if ends_in_target(bytes) => Ok(None),
         Err(_) => Err(HttpFault::BadHead),
     }
 }
@@ -73,7 +81,7 @@ fn find_reply(bytes: &[u8], fields: &mut [HeaderSpan]) -> Result<Option<HeadSpan
     requires room { length fields.old ≡ max_fields }
     ensures found { IfOk result (λ found. IfSome found (IsSomeHeadAt Kind.Replies bytes.now fields.new)) }
     ensures unfinished { IfOk result (λ found. IfNone found (IsUnfinishedHead Kind.Replies bytes.now)) }
-    ensures bad { IfErr result (λ fault. (fault ≡ HttpFault.BadHead) × HasTooManyFields Kind.Replies bytes.now) }
+    ensures bad { IfErr result (λ fault. (fault ≡ HttpFault.BadHead) × HasTooManyFields Kind.Replies bytes.now × ¬ (IsUnfinishedHead Kind.Replies bytes.now)) }
 {
     match parse_response(bytes, fields) {
         Ok(Status::Complete(spans)) => Ok(Some(HeadSpans {
@@ -81,7 +89,15 @@ fn find_reply(bytes: &[u8], fields: &mut [HeaderSpan]) -> Result<Option<HeadSpan
             fields: spans.headers,
             len: spans.len,
         })),
-        Ok(Status::Partial) => Ok(None),
+        Ok(Status::Partial) if has_room(bytes) => Ok(None),
+        Ok(Status::Partial) => Err(HttpFault::BadHead),
         Err(_) => Err(HttpFault::BadHead),
     }
+}
+
+// Whether no more lines have ended than the first one and those of `MAX_FIELDS` fields.
+fn has_room(bytes: &[u8]) -> bool
+    ensures { IsTrue result ↔ (head_lines bytes.now ≤ suc max_fields) }
+{
+    head_lines(bytes) <= MAX_FIELDS + 1
 }

@@ -4,10 +4,10 @@ ghost use Rattle.std.specs.List.{flat_map};
 ghost use Rattle.fed_http.specs.Text.{IsText, HasNoText};
 ghost use Rattle.fed_http.specs.Reader.{Reading};
 ghost use Rattle.fed_http.specs.Streams.{GivesInPieces};
-ghost use Rattle.fed_http.specs.Faults.{IsFault, IsBadLength};
+ghost use Rattle.fed_http.specs.Faults.{IsFault};
 ghost use Rattle.fed_http.specs.Waiting.{IsWaiting};
 ghost use Rattle.fed_http.specs.declared.fault.HttpFault.{HttpFault};
-ghost use Rattle.fed_http.specs.declared.fault.HttpFault.TheVariants.{Memory, BadLength};
+ghost use Rattle.fed_http.specs.declared.fault.HttpFault.TheVariants.{Memory};
 ghost use Rattle.fed_http.specs.declared.message.Kind.{Kind};
 ghost use Rattle.fed_http.specs.declared.message.Message.{Message};
 
@@ -28,10 +28,19 @@ pub fn who_waits_has_no_message()
     ensures { (kind : Kind) (bytes : List ℕ) → IsWaiting kind bytes → HasNoText kind bytes }
 {}
 
-/// Where a head does not say in one way how long its body is, no other fault holds, and no reader waits for more.
-pub fn a_bad_length_is_nothing_else()
-    ensures fault { (kind : Kind) (bytes : List ℕ) (fault : HttpFault) → IsBadLength kind bytes → fault ≢ Memory → IsFault kind bytes fault → fault ≡ BadLength }
-    ensures waiting { (kind : Kind) (bytes : List ℕ) → IsBadLength kind bytes → IsWaiting kind bytes → ⊥ }
+/// Of any bytes at most one fault holds: the fault is the same however they were cut.
+pub fn bytes_have_one_fault()
+    ensures { (kind : Kind) (bytes : List ℕ) (fault other : HttpFault) → fault ≢ Memory → other ≢ Memory → IsFault kind bytes fault → IsFault kind bytes other → fault ≡ other }
+{}
+
+/// A fault of bytes stays their fault, whatever bytes follow.
+pub fn faults_stay()
+    ensures { (kind : Kind) (bytes more : List ℕ) (fault : HttpFault) → IsFault kind bytes fault → IsFault kind (bytes ++ more) fault }
+{}
+
+/// Where a fault holds, no reader waits: of such bytes `Reader::feed` tells this fault or want of memory, and nothing else.
+pub fn who_waits_has_no_fault()
+    ensures { (kind : Kind) (bytes : List ℕ) (fault : HttpFault) → fault ≢ Memory → IsFault kind bytes fault → IsWaiting kind bytes → ⊥ }
 {}
 
 /// What a reader gives does not depend on how its stream is cut: of two cuttings of the same bytes, in which it waits until it gives a

@@ -10,6 +10,7 @@
 //! - `message`: `Message`, either of both, and `Kind`, which of them a connection carries
 //! - `fault`: `HttpFault`, why bytes are no message, and the reply to each
 //! - `limits`: how large a message may be
+//! - `unfinished`: the lines of a head or a trailer that has not ended
 //! - `head`: where the head of a message is
 //! - `framing`: `Framing`, how the end of a body is found
 //! - `chunks`: the chunks of a body
@@ -51,6 +52,7 @@ mod said;
 mod sending;
 mod separator;
 mod signing;
+mod unfinished;
 mod writing;
 mod x_matrix;
 mod x_matrix_laws;
@@ -59,8 +61,8 @@ pub use fault::HttpFault;
 pub use field::Field;
 pub use framing::Framing;
 pub use laws::{
-    a_bad_length_is_nothing_else, faults_are_final, texts_are_read_in_one_way,
-    who_waits_has_no_message,
+    bytes_have_one_fault, faults_are_final, faults_stay, texts_are_read_in_one_way,
+    who_waits_has_no_fault, who_waits_has_no_message,
 };
 pub use limits::{MAX_BODY, MAX_FIELDS, MAX_HEAD, MAX_LENGTH_DIGITS};
 pub use message::{Kind, Message};

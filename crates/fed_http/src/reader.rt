@@ -1,6 +1,7 @@
 // A reader of a stream of messages.
-ghost use Rattle.std.specs.Prelude.{◌≡◌, ◌↔◌, ◌++◌, true, false, Ok, Err, IfOk, IfSome, IfNone};
-ghost use Rattle.fed_http.specs.Faults.{IsBadHead, IsTooLarge, IsBadLength, HasLargeLength, IsBadChunk};
+ghost use Rattle.std.specs.Prelude.{◌≡◌, ◌≢◌, ◌++◌, true, false, Ok, Err, IfOk, IfSome, IfNone};
+ghost use Rattle.fed_http.specs.Faults.{IsFault, IsBadHead, IsTooLarge, IsBadLength, IsBadChunk};
+ghost use Rattle.fed_http.specs.declared.fault.HttpFault.{HttpFault};
 ghost use Rattle.fed_http.specs.Reader.{started, Gives, Waits, Fails, TellsOf};
 
 use crate::copying::read;
@@ -94,9 +95,8 @@ impl Reader {
         ensures failed { self.old.has_failed ≡ true → (result ≡ Err HttpFault.HasFailed) × (self.new ≡ self.old) }
         ensures only_failed { result ≡ Err HttpFault.HasFailed → self.old.has_failed ≡ true }
 
-        // Of a head with two lengths, or with one that is too large, nothing else is told but want of memory.
-        ensures two_lengths { self.old.has_failed ≡ false → IsBadLength self.old.kind (self.old.held ++ piece.now) → TellsOf HttpFault.BadLength result }
-        ensures large_length { self.old.has_failed ≡ false → HasLargeLength self.old.kind (self.old.held ++ piece.now) → TellsOf HttpFault.TooLarge result }
+        // Of bytes that have a fault, it is told, or want of memory.
+        ensures told { (fault : HttpFault) → self.old.has_failed ≡ false → fault ≢ HttpFault.Memory → IsFault self.old.kind (self.old.held ++ piece.now) fault → TellsOf fault result }
     {
         if self.has_failed {
             return Err(HttpFault::HasFailed);

@@ -37,4 +37,4 @@ returns-in-Never-clause-fault c =
     let at = on_some (IsLineAt bytes) c.in-Some.is c.in_ok-line.ensures.found in
     let behind = take (length bytes - found.len) (drop found.len bytes) in
     let tail = take (length behind - found.size) (drop found.size behind) in
-    part_never bytes behind tail found at c.if-line-eq0.false (to_end bytes found.len) c.if-behind-size.false (to_end behind found.size) (subst (LineEndOf tail) c.in-Never.is c.line_end.ensures)
+    part_never bytes behind tail found c.args.room at c.if-line-eq0.false c.if-line-room.false (to_end bytes found.len) c.if-behind-size.false (to_end behind found.size) (subst (LineEndOf tail) c.in-Never.is c.line_end.ensures)

@@ -1,6 +1,7 @@
 use Rattle.std.proofs.Common.{arith, ◌-◌, length, take, drop, ap, subst}
 use Rattle.fed_http.specs.Limits.{max_head}
-use Rattle.fed_http.specs.HeadParts.{IsSomeHeadAt, IsUnfinishedHead}
+use Rattle.fed_http.specs.HeadParts.{IsSomeHeadAt}
+use Rattle.fed_http.specs.Unfinished.{IsUnfinishedHead}
 use Rattle.fed_http.specs.FoundParts.{IsBodyAt, IsBodyFault, LacksBody}
 use Rattle.fed_http.proofs.Windows.{length-window, to_end}
 use Rattle.fed_http.proofs.Lines.{on_some, on_none, passed_on}

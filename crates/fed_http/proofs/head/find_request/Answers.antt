@@ -1,6 +1,15 @@
-use Rattle.std.proofs.Common.{arith}
-use Rattle.httparse.specs.Spans.{IsRequestWithin, IsRequestOf}
-use Rattle.httparse.proofs.HeadLemmas.{at_complete}
+use Rattle.std.proofs.Common.{arith, ◌≡◌, ◌≢◌, ℕ, suc, length, subst, Err, ◌<◌, ◌≤◌, refl, sym, ◌∙◌, inl, inr}
+use Rattle.std.proofs.lemmas.Bool.{false≢true, cases_lt}
+use Rattle.httparse.specs.Spans.{IsRequestWithin, IsRequestOf, RequestOverflows, RequestExceeds}
+use Rattle.httparse.proofs.HeadLemmas.{at_complete, on_partial}
+use Rattle.httparse.specs.Grammar.{NeverHasRequest}
+use Rattle.httparse.specs.declared.Error.{Error}
+use Rattle.httparse.specs.declared.Error.TheVariants.{TooManyHeaders}
+use Rattle.fed_http.specs.Limits.{max_fields}
+use Rattle.fed_http.specs.Lines.{head_lines}
+use Rattle.fed_http.specs.declared.message.Kind.TheVariants.{Requests}
+use Rattle.fed_http.proofs.Lines.{on_err}
+use Rattle.fed_http.proofs.HeadLines.{many_lines, target_unfinished, request_over, request_overflows, request_none}
 use Rattle.fed_http.proofs.HeadsFound.{some_request}
 use Rattle.fed_http.proofs.head.find_request.Goals as goal
 
@@ -11,3 +20,35 @@ returns-in-Ok-Complete-clause-found c =
     some_request bytes headers c.in-Ok-Complete.spans c.requires.few (omega arith)
     (at_complete (IsRequestWithin bytes headers) c.in-Ok-Complete.is c.in-Ok-Complete.field-0-is c.parse_request.ensures.within)
     (at_complete (IsRequestOf bytes headers) c.in-Ok-Complete.is c.in-Ok-Complete.field-0-is c.parse_request.ensures.complete)
+
+pub returns-in-Ok-Partial-clause-unfinished : goal.returns-in-Ok-Partial-clause-unfinished
+returns-in-Ok-Partial-clause-unfinished c = record {
+  none = request_none c.args.bytes.now (on_partial c.in-Ok-Partial.is c.in-Ok-Partial.field-0-is c.parse_request.ensures.partial);
+  may = on_partial c.in-Ok-Partial.is c.in-Ok-Partial.field-0-is c.parse_request.ensures.unfinished;
+  few = c.has_room.ensures.0 c.if-has_room.true;
+}
+
+pub returns-in-Ok-Partial-2-clause-bad : goal.returns-in-Ok-Partial-2-clause-bad
+returns-in-Ok-Partial-2-clause-bad c =
+    let bytes = c.args.bytes.now in
+    let none = request_none bytes (on_partial c.in-Ok-Partial.is c.in-Ok-Partial.field-0-is c.parse_request.ensures.partial) in
+    let over : head_lines bytes ≤ suc max_fields → ⊥ = λ few. false≢true (sym c.if-has_room.false ∙ c.has_room.ensures.1 few) in
+    let many : suc max_fields < head_lines bytes = elim (cases_lt (suc max_fields) (head_lines bytes)) [ inl more ↦ more | inr few ↦ absurd (over few) ] in
+    (refl, many_lines Requests bytes none many, λ u. over u.few)
+
+pub returns-in-Err-clause-unfinished : goal.returns-in-Err-clause-unfinished
+returns-in-Err-clause-unfinished c = target_unfinished c.args.bytes.now (c.ends_in_target.ensures.0 c.if-ends_in_target.true)
+
+pub returns-in-Err-2-clause-bad : goal.returns-in-Err-2-clause-bad
+returns-in-Err-2-clause-bad c =
+    let bytes = c.args.bytes.now in
+    let room = length c.args.fields.now in
+    let P : Error → Type 0 = λ _. RequestOverflows room bytes in
+    let M : ℕ → Type 0 = λ n. RequestOverflows n bytes in
+    let N : ℕ → Type 0 = λ n. c.parse_request.result ≡ Err TooManyHeaders → RequestExceeds n bytes in
+    let Q : Error → Type 0 = λ e. e ≢ TooManyHeaders → NeverHasRequest bytes in (
+      refl,
+      request_overflows bytes (subst M c.requires.room (on_err P c.in-Err.is c.parse_request.ensures.no_room)),
+      request_over bytes c.parse_request.result c.in-Err.field-0 c.in-Err.is (on_err Q c.in-Err.is c.parse_request.ensures.invalid) (subst N c.requires.room c.parse_request.ensures.too_many)
+          (λ ends. false≢true (sym c.if-ends_in_target.false ∙ c.ends_in_target.ensures.1 ends)),
+    )
