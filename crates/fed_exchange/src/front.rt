@@ -1,6 +1,6 @@
 // The message that bytes begin with.
-ghost use Rattle.std.specs.Prelude.{◌≡◌, ◌≢◌, None, IfOk, IfSome, IfNone};
-ghost use Rattle.fed_http.specs.Reader.{started};
+ghost use Rattle.std.specs.Prelude.{◌≡◌, ◌≢◌, [], None, IfOk, IfSome, IfNone};
+ghost use Rattle.fed_http.specs.Reader.{StandsFor};
 ghost use Rattle.fed_http.specs.Text.{HasNoText};
 ghost use Rattle.fed_http.specs.declared.fault.HttpFault.TheVariants.{Memory};
 ghost use Rattle.fed_exchange.specs.Messages.{BeginsWith};
@@ -15,7 +15,7 @@ pub(crate) fn message_at_front(
     mut reader: Reader,
     bytes: &[u8],
 ) -> Result<Option<Message>, NoMemory>
-    requires { reader ≡ started reader.kind }
+    requires { StandsFor reader [] }
     ensures found { IfOk result (λ found. IfSome found (λ m. BeginsWith reader.kind bytes.now m)) }
     ensures none { IfOk result (λ found. IfNone found (HasNoText reader.kind bytes.now)) }
 {

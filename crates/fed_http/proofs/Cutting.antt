@@ -20,33 +20,32 @@ pub record TextIn (kind : Kind) (bytes : List ℕ) (m : Message) (len : ℕ) : T
   pub whole : bytes ≡ text ++ rest
   pub len_is : len ≡ length text
 
-pub text_in : (m : Message) (old : Reading) (pieces : List (List ℕ)) (place : ℕ) → GivesInPieces m old pieces place → TextIn old.kind (old.held ++ joined pieces) m (length old.held + place)
-text_in m _ _ _ (now old new piece pieces used gives) = record {
-  text = old.held ++ take used piece;
+pub text_in : (m : Message) (old : Reading) (bytes : List ℕ) (pieces : List (List ℕ)) (place : ℕ) → GivesInPieces m old bytes pieces place → TextIn old.kind (bytes ++ joined pieces) m (length bytes + place)
+text_in m _ _ _ _ (now old new bytes piece pieces used gives) = record {
+  text = bytes ++ take used piece;
   rest = drop used piece ++ joined pieces;
   is_text = gives.text;
-  whole = ap (λ p. old.held ++ (p ++ joined pieces)) (sym (take-append-drop used piece)) ∙ regrouped old.held (take used piece) (drop used piece) (joined pieces);
-  len_is = omega (arith, length-append old.held (take used piece), length-take-le used piece gives.within);
+  whole = ap (λ p. bytes ++ (p ++ joined pieces)) (sym (take-append-drop used piece)) ∙ regrouped bytes (take used piece) (drop used piece) (joined pieces);
+  len_is = omega (arith, length-append bytes (take used piece), length-take-le used piece gives.within);
 }
   where
     regrouped : (a b c d : List ℕ) → a ++ ((b ++ c) ++ d) ≡ (a ++ b) ++ (c ++ d)
     regrouped a b c d = simp append_assoc
-text_in m _ _ _ (later old new piece pieces used further waits gives) =
-    let t = text_in m new pieces further gives in
-    let kinds : new.kind ≡ old.kind = ap (λ (r : Reading). r.kind) waits.after in
-    let helds : new.held ≡ old.held ++ piece = ap (λ (r : Reading). r.held) waits.after in
+text_in m _ _ _ _ (later old new bytes piece pieces used further waits gives) =
+    let t = text_in m new (bytes ++ piece) pieces further gives in
     let P : Kind → Type 0 = λ k. IsText k m t.text in
     record {
       text = t.text;
       rest = t.rest;
-      is_text = subst P kinds t.is_text;
-      whole = sym (append_assoc old.held piece (joined pieces)) ∙ ap (λ v. v ++ joined pieces) (sym helds) ∙ t.whole;
-      len_is = omega (arith, t.len_is, waits.all_used, ap length helds, length-append old.held piece);
+      is_text = subst P waits.kind t.is_text;
+      whole = sym (append_assoc bytes piece (joined pieces)) ∙ t.whole;
+      len_is = omega (arith, t.len_is, waits.all_used, length-append bytes piece);
     }
 
-pub cutting : (old : Reading) (pieces others : List (List ℕ)) (m n : Message) (place other : ℕ) → joined pieces ≡ joined others → GivesInPieces m old pieces place → GivesInPieces n old others other → (m ≡ n) × (place ≡ other)
-cutting old pieces others m n place other same x y =
-    let t = text_in m old pieces place x in
-    let u = text_in n old others other y in
-    let one = text_unique old.kind m n (old.held ++ joined pieces) t.text u.text t.rest u.rest t.is_text u.is_text t.whole (ap (λ v. old.held ++ v) same ∙ u.whole) in
+pub cutting : (old : Reading) (bytes : List ℕ) (pieces others : List (List ℕ)) (m n : Message) (place other : ℕ) → joined pieces ≡ joined others → GivesInPieces m old bytes pieces place → GivesInPieces n old bytes others other
+    → (m ≡ n) × (place ≡ other)
+cutting old bytes pieces others m n place other same x y =
+    let t = text_in m old bytes pieces place x in
+    let u = text_in n old bytes others other y in
+    let one = text_unique old.kind m n (bytes ++ joined pieces) t.text u.text t.rest u.rest t.is_text u.is_text t.whole (ap (λ v. bytes ++ v) same ∙ u.whole) in
     (one.0, omega (arith, t.len_is, u.len_is, ap length one.1))

@@ -11,7 +11,7 @@ use Rattle.fed_http.specs.Text.{IsText, HasNoText}
 use Rattle.fed_http.specs.CopyParts.{IsMessageAt}
 use Rattle.fed_http.specs.Faults.{IsFault}
 use Rattle.fed_http.specs.Waiting.{IsWaiting}
-use Rattle.fed_http.specs.Reader.{Reading, Gives, Waits, Fails}
+use Rattle.fed_http.specs.Reader.{Reading, StandsFor, Gives, Waits, Fails}
 use Rattle.fed_http.specs.declared.fault.HttpFault.{HttpFault}
 use Rattle.fed_http.specs.declared.fault.HttpFault.TheVariants.{Memory}
 use Rattle.fed_http.specs.declared.message.Kind.{Kind}
@@ -43,61 +43,68 @@ longer kind held piece all m len is none at = elim (cases_lt len (length held)) 
   | inr more ↦ more
 ]
 
-pub feed_gives : (old : Reading) (kind : Kind) (held piece all after : List ℕ) (failed : Bool) (m : Message) (len : ℕ) → record { kind = kind; held = held; has_failed = failed } ≡ old → failed ≡ false
-    → all ≡ held ++ piece → HasNoText kind held → IsMessageAt kind all m len → after ≡ [] → Gives old piece (record { kind = kind; held = after; has_failed = failed }) m (len - length held)
+-- what the fields of a reader say of the bytes that it stands for
+abbrev pub fields : Kind → List ℕ → Bool → Reading
+fields kind held failed = record { kind = kind; held = held; has_failed = failed }
+
+pub feed_gives : (old : Reading) (kind : Kind) (held piece all after : List ℕ) (failed : Bool) (m : Message) (len : ℕ) → fields kind held failed ≡ old → failed ≡ false
+    → all ≡ held ++ piece → HasNoText kind held → IsMessageAt kind all m len → after ≡ [] → (bytes : List ℕ) → StandsFor old bytes → Gives old bytes piece (fields kind after failed) m (len - length held)
 feed_gives old kind held piece all after failed m len view fresh is none at empty =
-    let new : Reading = record { kind = kind; held = after; has_failed = failed } in
+    let new = fields kind after failed in
     let enough = longer kind held piece all m len is none at in
     let used : length held + (len - length held) ≡ len = omega (arith, enough) in
     let text_is : take len all ≡ held ++ take (len - length held) piece = ap (take len) is ∙ ap (λ n. take n (held ++ piece)) (sym used) ∙ take-append-add held piece (len - length held) in
-    let P : List ℕ → Type 0 = IsText kind m in
-    let Q : Reading → Type 0 = λ o. Gives o piece new m (len - length held) in
-    subst Q view (record {
+    let Q : Reading → Type 0 = λ o. (bytes : List ℕ) → StandsFor o bytes → Gives o bytes piece new m (len - length held) in
+    subst Q view (λ bytes s. record {
       within = omega (arith, at.fits, ap length is, length-append held piece);
-      text = subst P text_is at.text;
-      after = λ i. record { kind = kind; held = empty i; has_failed = fresh i };
+      text = subst (λ b. IsText kind m (b ++ take (len - length held) piece)) s.held (subst (IsText kind m) text_is at.text);
+      kind = refl;
+      after = record { live = fresh; none = empty_has_no_text kind; held = empty };
     })
 
-pub feed_waits : (old : Reading) (kind : Kind) (held piece all : List ℕ) (failed : Bool) → record { kind = kind; held = held; has_failed = failed } ≡ old → all ≡ held ++ piece → IsWaiting kind all
-    → Waits old piece (record { kind = kind; held = all; has_failed = failed }) (length piece)
-feed_waits old kind held piece all failed view is waits =
-    let new : Reading = record { kind = kind; held = all; has_failed = failed } in
-    let Q : Reading → Type 0 = λ o. Waits o piece new (length piece) in
-    let here = subst (IsWaiting kind) is waits in
-    subst Q view (record {
+pub feed_waits : (old : Reading) (kind : Kind) (held piece all : List ℕ) (failed : Bool) → fields kind held failed ≡ old → failed ≡ false → all ≡ held ++ piece → IsWaiting kind all
+    → (bytes : List ℕ) → StandsFor old bytes → Waits old bytes piece (fields kind all failed) (length piece)
+feed_waits old kind held piece all failed view fresh is waits =
+    let new = fields kind all failed in
+    let Q : Reading → Type 0 = λ o. (bytes : List ℕ) → StandsFor o bytes → Waits o bytes piece new (length piece) in
+    subst Q view (λ bytes s.
+    let same : all ≡ bytes ++ piece = is ∙ ap (λ b. b ++ piece) s.held in
+    let here = subst (IsWaiting kind) same waits in
+    record {
       all_used = refl;
-      none = waiting_has_no_text kind (held ++ piece) here;
+      none = waiting_has_no_text kind (bytes ++ piece) here;
       waiting = here;
-      after = λ i. record { kind = kind; held = is i; has_failed = failed };
+      kind = refl;
+      after = record { live = fresh; none = waiting_has_no_text kind (bytes ++ piece) here; held = same };
     })
 
 -- ---- a fault
 
-pub feed_fails : (fact : Kind → List ℕ → Type 0) (old : Reading) (kind : Kind) (held piece all kept : List ℕ) (failed : Bool) (fault : HttpFault) → record { kind = kind; held = held; has_failed = failed } ≡ old → all ≡ held ++ piece
-    → fault ≢ Memory → IsFault kind all fault → (IsFault kind (held ++ piece) fault → fact kind (held ++ piece)) → Fails fact old piece (record { kind = kind; held = kept; has_failed = true })
+pub feed_fails : (fact : Kind → List ℕ → Type 0) (old : Reading) (kind : Kind) (held piece all kept : List ℕ) (failed : Bool) (fault : HttpFault) → fields kind held failed ≡ old → all ≡ held ++ piece
+    → fault ≢ Memory → IsFault kind all fault → ((bytes : List ℕ) → IsFault kind bytes fault → fact kind bytes) → (bytes : List ℕ) → StandsFor old bytes → Fails fact old bytes piece (fields kind kept true)
 feed_fails fact old kind held piece all kept failed fault view is other told says =
-    let new : Reading = record { kind = kind; held = kept; has_failed = true } in
-    let Q : Reading → Type 0 = λ o. Fails fact o piece new in
-    let F : List ℕ → Type 0 = λ v. IsFault kind v fault in
-    let here = subst F is told in
-    subst Q view (record {
-      is = says here;
-      none = fault_has_no_text kind (held ++ piece) fault other here;
+    let new = fields kind kept true in
+    let Q : Reading → Type 0 = λ o. (bytes : List ℕ) → StandsFor o bytes → Fails fact o bytes piece new in
+    subst Q view (λ bytes s.
+    let here = subst (λ v. IsFault kind v fault) (is ∙ ap (λ b. b ++ piece) s.held) told in
+    record {
+      is = says (bytes ++ piece) here;
+      none = fault_has_no_text kind (bytes ++ piece) fault other here;
       kind = refl;
       after = refl;
     })
+
+-- some bytes stand until it has failed
+pub some_stand : (old : Reading) (kind : Kind) (held : List ℕ) (failed : Bool) → fields kind held failed ≡ old → (failed ≡ false → HasNoText kind held) → old.has_failed ≡ false → (bytes : List ℕ) × StandsFor old bytes
+some_stand old kind held failed view none =
+    let Q : Reading → Type 0 = λ o. o.has_failed ≡ false → (bytes : List ℕ) × StandsFor o bytes in
+    subst Q view (λ fresh. (held, record { live = fresh; none = none fresh; held = refl }))
 
 -- the fault that was told
 pub told_as : {A : Type 0} (kind : Kind) (bytes : List ℕ) (fault other : HttpFault) → ◌≡◌ {A = Result A HttpFault} (Err fault) (Err other) → IsFault kind bytes fault → IsFault kind bytes other
 told_as kind bytes fault other e is = let same : fault ≡ other = cc in subst (IsFault kind bytes) same is
 
 -- ---- want of memory
-
-pub feed_restores : (old : Reading) (kind : Kind) (held piece all after : List ℕ) (failed : Bool) → record { kind = kind; held = held; has_failed = failed } ≡ old → all ≡ held ++ piece → after ≡ take (length held) all
-    → record { kind = kind; held = after; has_failed = failed } ≡ old
-feed_restores old kind held piece all after failed view is cut =
-    let same : after ≡ held = cut ∙ ap (take (length held)) is ∙ take-append_seam held piece in
-    (λ i. record { kind = kind; held = same i; has_failed = failed }) ∙ view
 
 pub restored : (held piece all after : List ℕ) → all ≡ held ++ piece → after ≡ take (length held) all → after ≡ held
 restored held piece all after is cut = cut ∙ ap (take (length held)) is ∙ take-append_seam held piece

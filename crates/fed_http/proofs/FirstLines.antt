@@ -1,5 +1,5 @@
 -- The first lines of bytes.
-use Rattle.std.proofs.Common.{arith, ◌≡◌, ℕ, zero, suc, ◌+◌, ◌-◌, ◌<◌, ◌≤◌, true, false, cond, ◌==◌, List, [], ◌∷◌, ◌++◌, length, refl, sym, ap, subst, ◌∙◌}
+use Rattle.std.proofs.Common.{arith, ◌≡◌, ℕ, zero, suc, ◌-◌, ◌<◌, ◌≤◌, true, false, cond, ◌==◌, List, [], ◌∷◌, ◌++◌, refl, sym, ap, subst, ◌∙◌}
 use Rattle.fed_http.specs.Lines.{line_feeds, first_lines}
 
 pub first-front : (xs : List ℕ) (n : ℕ) → (rest : List ℕ) × (xs ≡ first_lines xs n ++ rest)

@@ -1,11 +1,10 @@
 -- What parameters have under the four names, one parameter after another.
-use Rattle.std.proofs.Common.{◌≡◌, ◌≢◌, ℕ, ◌+◌, ◌≤◌, Bool, true, false, cond, List, [], ◌∷◌, ◌++◌, length, map, codes, bytes_eq, Option, Some, None, IfSome, IfNone, refl, sym, ap, subst, ◌∙◌, arith, length-append}
+use Rattle.std.proofs.Common.{◌≡◌, ◌≢◌, ℕ, ◌+◌, ◌≤◌, Bool, true, false, cond, List, [], ◌∷◌, ◌++◌, length, map, codes, bytes_eq, Option, Some, None, refl, sym, ap, ◌∙◌, arith, length-append}
 use Rattle.std.proofs.lemmas.List.{append-nil}
 use Rattle.std.proofs.lemmas.Slice.Eq.{bytes_eq-Decides}
 use Rattle.std.specs.Char.{to_ascii_lowercase}
 use Rattle.std.specs.Option.{option_to_list}
-use Rattle.fed_http.specs.declared.found.Found.{Found}
-use Rattle.fed_http.specs.XMatrix.{XMatrixValue, Parameter, values_under, Says}
+use Rattle.fed_http.specs.XMatrix.{Parameter, values_under}
 use Rattle.fed_http.specs.XMatrixParts.{IsTwice, DoesNotSay}
 
 pub values_under-append : (name : List ℕ) (ps qs : List Parameter) → values_under name (ps ++ qs) ≡ values_under name ps ++ values_under name qs

@@ -1,14 +1,14 @@
 -- The lines of a head that has not ended.
-use Rattle.std.proofs.Common.{arith, ◌≡◌, ◌≢◌, ℕ, suc, ◌<◌, ◌≤◌, List, [], ◌∷◌, ◌++◌, length, refl, sym, ap, subst, ◌∙◌, append_assoc, append-nil, length-append, inl, inr}
+use Rattle.std.proofs.Common.{arith, ◌≡◌, ◌≢◌, ℕ, suc, ◌<◌, List, [], ◌∷◌, ◌++◌, length, sym, ap, ◌∙◌, append_assoc, append-nil, length-append, inl, inr}
 use Rattle.std.specs.Prelude.{Result, Err}
 use Rattle.std.proofs.lemmas.Bool.{cases_lt}
 use Rattle.httparse.specs.declared.Error.{Error}
 use Rattle.httparse.specs.declared.Error.TheVariants.{TooManyHeaders}
-use Rattle.httparse.specs.Grammar.{LineEnd, lf, print_end, print_blank, IsToken, AllPass, is_uri_byte, EndsInTarget, HasNoRequest, NeverHasRequest, HasNoResponse, NeverHasResponse}
+use Rattle.httparse.specs.Grammar.{EndsInTarget, HasNoRequest, NeverHasRequest, HasNoResponse, NeverHasResponse}
 use Rattle.httparse.specs.Spans.{RequestOverflows, ResponseOverflows, RequestExceeds, ResponseExceeds}
 use Rattle.fed_http.specs.Limits.{max_fields}
-use Rattle.fed_http.specs.Lines.{line_feeds, head_lines}
-use Rattle.fed_http.specs.Head.{Head, request, reply, ReadsHead, IsHeadOf, print_head, field_lines, HasNoHead}
+use Rattle.fed_http.specs.Lines.{head_lines}
+use Rattle.fed_http.specs.Head.{Head, request, reply, IsHeadOf, print_head, field_lines, HasNoHead}
 use Rattle.fed_http.specs.Faults.{HasTooManyFields}
 use Rattle.fed_http.specs.Unfinished.{IsUnfinishedHead}
 use Rattle.fed_http.specs.declared.message.Kind.{Kind}

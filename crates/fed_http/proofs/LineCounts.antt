@@ -1,15 +1,14 @@
 -- How many lines end in bytes, in a section and in a head.
-use Rattle.std.proofs.Common.{arith, ◌≡◌, ◌≢◌, ℕ, zero, suc, ◌+◌, ◌-◌, ◌<◌, ◌≤◌, Bool, true, false, cond, IsTrue, ◌==◌, List, [], ◌∷◌, ◌++◌, length, take, drop, All, refl, sym, ap, subst, ◌∙◌, append_assoc, append-nil, length-append, length-drop, ne_eqb, eqb-true, Option, Some, None, flat_map}
+use Rattle.std.proofs.Common.{arith, ◌≡◌, ℕ, suc, ◌+◌, ◌<◌, ◌≤◌, Bool, true, false, cond, IsTrue, ◌==◌, List, [], ◌∷◌, ◌++◌, length, drop, All, refl, sym, ap, ◌∙◌, append_assoc, append-nil, length-append, ne_eqb, Option, Some, None, flat_map}
 use Rattle.std.proofs.lemmas.Bool.{false≢true}
 use Rattle.std.proofs.lemmas.List.Recursion.{is_count_by}
 use Rattle.std.specs.List.{prefix_len, count_by}
 use Rattle.std.proofs.lemmas.List.Elements.{All-head, All-tail}
-use Rattle.std.proofs.lemmas.List.{take-append-drop}
 use Rattle.httparse.specs.Grammar.{LineEnd, crlf, lf, print_end, print_blank, print_version, print_reason, reason_phrase, Field, IsField, print_field, print_section, IsToken, AllPass, is_token_byte, is_uri_byte, is_value_byte, RequestHead, print_request, ResponseHead, print_response}
 use Rattle.std.specs.Char.{is_ascii_digit}
 use Rattle.httparse.proofs.GrammarLemmas.{cons-append, print_request-append, print_response-append}
 use Rattle.httparse.proofs.PieceLemmas.{token_is_no_newline}
-use Rattle.fed_http.specs.Lines.{line_feeds, is_line_byte, behind_ends, head_lines, first_lines}
+use Rattle.fed_http.specs.Lines.{line_feeds, is_line_byte, behind_ends, head_lines}
 use Rattle.fed_http.specs.Head.{Head, request, reply, print_head, IsHeadOf, field_lines}
 use Rattle.fed_http.specs.declared.message.Kind.{Kind}
 use Rattle.fed_http.specs.declared.message.Kind.TheVariants.{Requests, Replies}

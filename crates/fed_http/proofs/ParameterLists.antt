@@ -1,12 +1,12 @@
 -- Lists of parameters, one parameter after another.
-use Rattle.std.proofs.Common.{◌≡◌, ◌≢◌, ◌⊎◌, ℕ, ◌<◌, ◌==◌, Bool, true, false, not, List, [], ◌∷◌, ◌++◌, length, map, get_or, codes, refl, sym, ap, subst, ◌∙◌, arith, append_assoc, inl, inr}
+use Rattle.std.proofs.Common.{◌≡◌, ◌≢◌, ℕ, ◌==◌, Bool, false, not, List, [], ◌∷◌, ◌++◌, length, map, get_or, codes, refl, sym, ap, subst, ◌∙◌, arith, append_assoc, inl, inr}
 use Rattle.std.proofs.lemmas.Bool.{false≢true}
 use Rattle.std.proofs.lemmas.Bool.Decides.{nat_tests}
 use Rattle.std.proofs.lemmas.List.{get_or-map, length-map}
 use Rattle.std.specs.Char.{to_ascii_lowercase}
 use Rattle.std.specs.List.{list_all}
 use Rattle.fed_http.specs.declared.found.Found.{Found}
-use Rattle.fed_http.specs.XMatrix.{XMatrixValue, is_white, is_plain, is_delimiter, is_name_char, IsRunOf, IsWhite, IsWritten, IsParameter, Parameter, AreFurther, AreParameters, Says}
+use Rattle.fed_http.specs.XMatrix.{XMatrixValue, is_white, is_plain, is_name_char, IsRunOf, IsWhite, IsWritten, IsParameter, Parameter, AreFurther, AreParameters, Says}
 use Rattle.fed_http.specs.XMatrixParts.{BeginsWithout, DoesNotSay, Holds, IsEnd, SkipsRun, StartsWith, StartsWithComma, StartsWithScheme}
 use Rattle.fed_http.proofs.Runs.{front, run_unique, stop_from_end, Lacks, first_at, holds_it, lacks_other}
 use Rattle.fed_http.proofs.Parameters.{starts_plain, escaped_unique, is_run, name_lacks}

@@ -1,5 +1,5 @@
 -- What is written of a reply is a text of it.
-use Rattle.std.proofs.Common.{◌≡◌, ℕ, ◌+◌, ◌≤◌, ◌<◌, ◌^◌, ◌/◌, ◌%◌, ◌&&◌, not, cond, Bool, true, false, nat_lt, List, [], ◌∷◌, ◌++◌, length, map, reverse, All, Option, Some, None, unwrap_or, codes, decimal, refl, sym, ap, subst, ◌∙◌, arith, append_assoc, length-append}
+use Rattle.std.proofs.Common.{◌≡◌, ℕ, ◌+◌, ◌≤◌, ◌<◌, ◌^◌, ◌/◌, ◌%◌, ◌&&◌, not, cond, Bool, true, false, List, [], ◌∷◌, ◌++◌, length, map, reverse, All, Some, None, codes, decimal, refl, sym, ap, subst, ◌∙◌, arith, append_assoc, length-append}
 use Rattle.std.specs.Prelude.{nat_le, IsTrue}
 use Rattle.std.proofs.lemmas.Bool.Decides.{nat_tests}
 use Rattle.std.proofs.lemmas.Bool.{false≢true, lt-ltb, le-leb}
@@ -10,17 +10,16 @@ use Rattle.std.proofs.lemmas.Fmt.{decimal_is_IsNumeral, length-decimal-le, decim
 use Rattle.std.specs.List.{flat_map, list_all}
 use Rattle.std.specs.Char.{is_ascii_digit}
 use Rattle.std.specs.Str.Parse.{digits_value}
-use Rattle.httparse.specs.Grammar.{Field, IsField, AllPass, is_token_byte, is_ows, skip_ows, is_value_byte, print_field, print_response, ResponseHead, IsResponseHead, trim_ows}
+use Rattle.httparse.specs.Grammar.{IsField, AllPass, is_token_byte, is_ows, skip_ows, is_value_byte, print_response, ResponseHead, IsResponseHead, trim_ows}
 use Rattle.httparse.specs.Grammar.LineEnd.{crlf}
-use Rattle.httparse.specs.Spans.{name_and_value}
 use Rattle.fed_http.specs.Message.{Answer}
 use Rattle.fed_http.specs.Framing.{framing_of, length_of, is_length}
-use Rattle.fed_http.specs.Head.{Head, reply, IsWithinLimits, reply_framing}
+use Rattle.fed_http.specs.Head.{reply, reply_framing}
 use Rattle.fed_http.specs.Text.{IsReplyText}
 use Rattle.fed_http.specs.declared.framing.Framing.TheVariants.{Fixed}
 use Rattle.fed_http.specs.declared.message.Message.TheVariants.{Reply}
 use Rattle.fed_http.specs.Writing.{field_line, line_end, status_line, reply_fields, reply_bytes, IsWritableReply, IsWritableField, phrase_of}
-use Rattle.fed_http.proofs.WrittenTexts.{Pair, line, names, lines, valid_field, phrase_in}
+use Rattle.fed_http.proofs.WrittenTexts.{line, names, lines, valid_field, phrase_in}
 use Rattle.http.specs.StatusCode.{reason_phrase}
 use Rattle.fed_http.proofs.Runs.{front, back}
 use Rattle.fed_http.proofs.Phrases.{phrases_pass, none_or_some}

@@ -1,5 +1,5 @@
 -- Where a fault holds, no message is found.
-use Rattle.std.proofs.Common.{◌≡◌, ◌≢◌, ℕ, ◌+◌, List, [], take, drop, refl, sym}
+use Rattle.std.proofs.Common.{◌≢◌, ℕ, ◌+◌, List, [], take, drop, refl, sym}
 use Rattle.std.proofs.lemmas.List.{take-append-drop}
 use Rattle.httparse.specs.declared.spans.HeaderSpan.{HeaderSpan}
 use Rattle.fed_http.specs.Head.{message_of}

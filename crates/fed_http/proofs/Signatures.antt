@@ -1,12 +1,12 @@
 -- The text of a signature.
-use Rattle.std.proofs.Common.{◌≡◌, ℕ, ◌<◌, List, [], ◌++◌, length, Bool, true, false, cond, nat_eq, Option, Some, None, option_and_then, MatchOption, Ok, Err, arith, refl, sym, ◌∙◌, ap, subst, length-append}
+use Rattle.std.proofs.Common.{◌≡◌, ℕ, List, length, Bool, true, false, cond, nat_eq, Option, Some, None, option_and_then, MatchOption, Ok, Err, arith, refl, sym, ◌∙◌, ap, subst}
 use Rattle.std.proofs.lemmas.Bool.Decides.{nat_tests}
 use Rattle.std.proofs.lemmas.List.{append-nil}
 use Rattle.std.specs.Result.{result_ok}
 use Rattle.std.specs.declared.result.Result.{Result}
 use Rattle.base64.specs.declared.decode.DecodeError.{DecodeError}
 use Rattle.base64.specs.Decode.{decode_outcome}
-use Rattle.base64.specs.GeneralPurpose.{IsBytes, encode_of, decode_of, decoded_of, decoded_bytes_of}
+use Rattle.base64.specs.GeneralPurpose.{IsBytes, decode_of, decoded_of, decoded_bytes_of}
 use Rattle.base64.specs.Engines.{standard_no_pad}
 use Rattle.base64.proofs.EngineFacts.{decode_of_strict, decode_of-encode_of}
 use Rattle.base64.proofs.RoundTrip.{length-encode_symbols}

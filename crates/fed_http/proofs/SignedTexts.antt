@@ -1,12 +1,12 @@
 -- The text that is signed for a request is its parts, one behind another.
-use Rattle.std.proofs.Common.{◌≡◌, ℕ, Bool, true, List, [], ◌∷◌, ◌++◌, codes, Less, IsUtf8, refl, sym, ap, ◌∙◌, append_assoc}
+use Rattle.std.proofs.Common.{◌≡◌, ℕ, true, List, [], ◌++◌, codes, Less, refl, ap, ◌∙◌, append_assoc}
 use Rattle.std.proofs.lemmas.Str.{is_utf8-from_IsUtf8}
 use Rattle.std.specs.Ordering.{nat_cmp, is_lt}
 use Rattle.std.specs.Str.{is_utf8}
 use Rattle.std.specs.Cmp.Lexicographic.{slice_cmp}
 use Rattle.json.specs.Print.{escape_byte}
 use Rattle.json.proofs.Printed.Utf8.{are_ascii, IsUtf8-are_ascii}
-use Rattle.serde_json.specs.Data.{Data, string}
+use Rattle.serde_json.specs.Data.{string}
 use Rattle.fed_json.specs.Profile.{IsProfile, comes_before}
 use Rattle.fed_json.specs.CanonicalText.{canonical_text, IsCanonicalText}
 use Rattle.fed_json.proofs.KeyOrder.{chars_order}

@@ -1,17 +1,17 @@
 -- A fault stays, whatever bytes follow.
-use Rattle.std.proofs.Common.{arith, ◌≡◌, ◌≢◌, ℕ, suc, ◌+◌, ◌-◌, ◌<◌, ◌≤◌, List, [], ◌∷◌, ◌++◌, length, take, All, refl, sym, ap, subst, ◌∙◌, append_assoc, append-nil, length-append, inl, inr}
+use Rattle.std.proofs.Common.{arith, ◌≡◌, ℕ, List, [], ◌∷◌, ◌++◌, length, refl, sym, ap, subst, ◌∙◌, append_assoc, length-append, inl, inr}
 use Rattle.std.proofs.lemmas.Bool.{cases_lt}
 use Rattle.std.proofs.lemmas.List.{take-append-le}
 use Rattle.std.proofs.lemmas.List.Elements.{All-head, All-tail, All-nil, All-cons}
 use Rattle.std.specs.Prelude.{IsTrue}
-use Rattle.httparse.specs.Grammar.{LineEnd, lf, print_blank, print_chunk_line, IsToken, AllPass, is_token_byte, is_uri_byte, IsField, RequestHead, EndsInTarget, MayBecomeRequest, NeverHasChunkLine, HasNoChunkLine, NeverHasSection}
+use Rattle.httparse.specs.Grammar.{LineEnd, lf, print_blank, print_chunk_line, AllPass, is_token_byte, is_uri_byte, IsField, RequestHead, EndsInTarget, MayBecomeRequest, NeverHasChunkLine, HasNoChunkLine, NeverHasSection}
 use Rattle.httparse.proofs.GrammarLemmas.{print_request-append, cons-append}
 use Rattle.httparse.proofs.PieceLemmas.{front-append}
-use Rattle.fed_http.specs.Limits.{max_head, max_fields, window}
-use Rattle.fed_http.specs.Head.{Head, reply, ReadsHead, MayBecomeHead}
+use Rattle.fed_http.specs.Limits.{max_head, window}
+use Rattle.fed_http.specs.Head.{reply, MayBecomeHead}
 use Rattle.fed_http.specs.Body.{Chunk, print_chunks}
 use Rattle.fed_http.specs.Unfinished.{IsUnfinishedHead, IsUnfinishedTrailer, IsFullTrailer, trailer_front}
-use Rattle.fed_http.specs.Faults.{ReachesBody, ReadsChunks, ReachesTrailer, HasBadLine, NeverHasLineEnd, HasBadChunk, no_line, no_line_end, no_trailer, HasLargeChunks, HasLargeTrailer, HasManyTrailers, HasTooManyFields, IsBadHead, no_head, interim, trailers, IsTooLarge, large_head, large_length, large_chunks, large_trailer, IsFault}
+use Rattle.fed_http.specs.Faults.{ReachesBody, ReadsChunks, ReachesTrailer, HasBadLine, HasBadChunk, no_line, no_line_end, no_trailer, HasLargeChunks, HasLargeTrailer, HasManyTrailers, HasTooManyFields, IsBadHead, no_head, interim, trailers, IsTooLarge, large_head, large_length, large_chunks, large_trailer, IsFault}
 use Rattle.fed_http.specs.declared.fault.HttpFault.{HttpFault}
 use Rattle.fed_http.specs.declared.fault.HttpFault.TheVariants.{Memory, BadHead, TooLarge, BadLength, BadChunk, HasFailed}
 use Rattle.fed_http.specs.declared.framing.Framing.{Framing}
@@ -23,7 +23,6 @@ use Rattle.fed_http.proofs.HeadLemmas.{ReadsHead-append}
 use Rattle.fed_http.proofs.LineCounts.{lines-append, front_in}
 use Rattle.fed_http.proofs.TrailerFronts.{window-append, front-grows, front-full, front-many}
 use Rattle.httparse.proofs.OpenLemmas.{letter_is_token}
-use Rattle.fed_http.proofs.ChunkLemmas.{regroup}
 use Rattle.fed_http.proofs.Messages.{token_text}
 
 -- ---- a target that has not ended

@@ -1,5 +1,5 @@
 -- What is looked at of a trailer, where more bytes follow, and where a section is there.
-use Rattle.std.proofs.Common.{arith, ◌≡◌, ℕ, zero, suc, ◌+◌, ◌-◌, ◌<◌, ◌≤◌, List, [], ◌∷◌, ◌++◌, length, take, drop, All, refl, sym, ap, ◌∙◌, append_assoc}
+use Rattle.std.proofs.Common.{arith, ◌≡◌, ℕ, zero, suc, ◌-◌, ◌<◌, ◌≤◌, List, [], ◌∷◌, ◌++◌, length, take, drop, All, refl, sym, ap, ◌∙◌, append_assoc}
 use Rattle.std.proofs.lemmas.List.{take-append-drop, take-append-le}
 use Rattle.httparse.specs.Grammar.{Field, IsField, LineEnd, print_section}
 use Rattle.fed_http.specs.Limits.{max_head, max_fields, window}

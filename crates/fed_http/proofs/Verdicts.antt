@@ -1,5 +1,5 @@
 -- Of any bytes at most one fault holds, and none where more bytes are waited for.
-use Rattle.std.proofs.Common.{arith, ◌≡◌, ◌≢◌, ℕ, suc, ◌+◌, ◌-◌, ◌<◌, ◌≤◌, List, [], ◌∷◌, ◌++◌, length, take, refl, sym, ap, subst, ◌∙◌, append_assoc, length-append, Option, Some, None, inl, inr}
+use Rattle.std.proofs.Common.{arith, ◌≡◌, ◌≢◌, ℕ, ◌-◌, ◌<◌, ◌≤◌, List, [], ◌∷◌, ◌++◌, length, take, refl, sym, ap, subst, ◌∙◌, append_assoc, length-append, Option, Some, None, inl, inr}
 use Rattle.std.specs.List.{AllByRecursion}
 use Rattle.std.proofs.lemmas.List.{append-nil}
 use Rattle.httparse.specs.Ascii.{crlf_bytes}
@@ -9,13 +9,13 @@ use Rattle.fed_http.specs.Limits.{max_head, max_body, window}
 use Rattle.fed_http.specs.Head.{Head, reply, ReadsHead, IsFinal, IsWithinLimits, head_framing, print_head}
 use Rattle.fed_http.specs.Body.{Chunk, IsChunk, IsShortLine, print_chunk, print_chunks, chunk_data}
 use Rattle.fed_http.specs.Unfinished.{IsUnfinishedHead, IsUnfinishedTrailer, IsFullTrailer, trailer_front}
-use Rattle.fed_http.specs.Faults.{ReachesBody, ReadsChunks, ReachesTrailer, HasBadLine, NeverHasLineEnd, HasBadChunk, no_line, no_line_end, no_trailer, HasLargeChunks, HasLargeTrailer, HasManyTrailers, HasTooManyFields, no_head, interim, trailers, large_head, large_length, large_chunks, large_trailer, IsFault}
+use Rattle.fed_http.specs.Faults.{ReachesBody, ReadsChunks, ReachesTrailer, HasBadLine, NeverHasLineEnd, HasBadChunk, no_line, no_line_end, no_trailer, HasLargeChunks, HasTooManyFields, no_head, interim, trailers, large_head, large_length, large_chunks, large_trailer, IsFault}
 use Rattle.fed_http.specs.Waiting.{LacksChunks, IsWaiting}
 use Rattle.fed_http.specs.Waiting as waiting
 use Rattle.fed_http.specs.declared.fault.HttpFault.{HttpFault}
 use Rattle.fed_http.specs.declared.fault.HttpFault.TheVariants.{Memory, BadHead, TooLarge, BadLength, BadChunk, HasFailed}
 use Rattle.fed_http.specs.declared.framing.Framing.{Framing}
-use Rattle.fed_http.specs.declared.framing.Framing.TheVariants.{NoBody, Fixed, Chunked}
+use Rattle.fed_http.specs.declared.framing.Framing.TheVariants.{Fixed, Chunked}
 use Rattle.fed_http.specs.declared.message.Kind.{Kind}
 use Rattle.fed_http.proofs.Windows.{split_same, shrunk, all_of_few}
 use Rattle.fed_http.proofs.HeadLemmas.{head_unique}

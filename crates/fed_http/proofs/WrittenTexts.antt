@@ -1,5 +1,5 @@
 -- What is written of a message is a text of it.
-use Rattle.std.proofs.Common.{◌≡◌, ℕ, ◌≤◌, ◌<◌, ◌&&◌, Bool, true, false, cond, nat_lt, List, [], ◌∷◌, ◌++◌, length, map, All, Option, Some, None, option_map, unwrap_or, Bor, codes, refl, sym, ap, subst, ◌∙◌, arith, append_assoc}
+use Rattle.std.proofs.Common.{◌≡◌, ℕ, ◌≤◌, ◌&&◌, Bool, true, false, cond, nat_lt, List, [], ◌∷◌, ◌++◌, length, map, All, Option, Some, None, option_map, unwrap_or, Bor, codes, refl, sym, ap, subst, ◌∙◌, arith, append_assoc}
 use Rattle.std.specs.Prelude.{nat_le, IsTrue}
 use Rattle.std.proofs.lemmas.Bool.Decides.{nat_tests}
 use Rattle.std.proofs.lemmas.List.{append-nil, length-map}
@@ -12,10 +12,9 @@ use Rattle.httparse.specs.Spans.{name_and_value}
 use Rattle.fed_http.specs.Message.{RequestValue}
 use Rattle.fed_http.specs.Framing.{framing_of}
 use Rattle.fed_http.specs.Limits.{max_head}
-use Rattle.fed_http.specs.Head.{Head, request, IsWithinLimits}
+use Rattle.fed_http.specs.Head.{request, IsWithinLimits}
 use Rattle.fed_http.specs.Text.{IsRequestText}
 use Rattle.fed_http.specs.declared.framing.Framing.TheVariants.{Fixed}
-use Rattle.fed_http.specs.declared.message.Message.{Message}
 use Rattle.fed_http.specs.declared.message.Message.TheVariants.{Request}
 use Rattle.fed_http.specs.Writing.{field_line, line_end, request_bytes, IsWritable, IsWritableField, phrase_of}
 

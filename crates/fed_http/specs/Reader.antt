@@ -7,35 +7,46 @@ use Rattle.fed_http.specs.declared.fault.HttpFault.TheVariants.{Memory}
 use Rattle.fed_http.specs.declared.message.Kind.{Kind}
 use Rattle.fed_http.specs.declared.message.Message.{Message}
 
--- what it reads, the bytes since the last message, and whether it told of a fault
+-- what it reads, what it holds, and whether it told of a fault
 pub record Reading : Type 0 where
   pub kind : Kind
   pub held : List ℕ
   pub has_failed : Bool
 
--- at the beginning
-abbrev pub started : Kind → Reading
-started kind = record { kind = kind; held = []; has_failed = false }
+-- It stands for the bytes that came since it was made, or since it last gave a message: it told of no fault, and no message is whole in
+-- them. What it holds of them is its own affair: this one holds them all.
+pub record StandsFor (r : Reading) (bytes : List ℕ) : Type 0 where
+  pub live : r.has_failed ≡ false
+  pub none : HasNoText r.kind bytes
+  pub held : r.held ≡ bytes
 
--- a message is whole: the bytes so far, up to some of the piece, are a text of it
-pub record Gives (old : Reading) (piece : List ℕ) (new : Reading) (m : Message) (used : ℕ) : Type 0 where
+-- a message is whole: the bytes so far, up to some of the piece, are a text of it; it begins anew
+pub record Gives (old : Reading) (bytes piece : List ℕ) (new : Reading) (m : Message) (used : ℕ) : Type 0 where
   pub within : used ≤ length piece
-  pub text : IsText old.kind m (old.held ++ take used piece)
-  pub after : new ≡ started old.kind
+  pub text : IsText old.kind m (bytes ++ take used piece)
+  pub kind : new.kind ≡ old.kind
+  pub after : StandsFor new []
 
--- no message is whole, and one may become so: the bytes are kept
-pub record Waits (old : Reading) (piece : List ℕ) (new : Reading) (used : ℕ) : Type 0 where
+-- no message is whole, and one may become so: it stands for the piece too
+pub record Waits (old : Reading) (bytes piece : List ℕ) (new : Reading) (used : ℕ) : Type 0 where
   pub all_used : used ≡ length piece
-  pub none : HasNoText old.kind (old.held ++ piece)
-  pub waiting : IsWaiting old.kind (old.held ++ piece)
-  pub after : new ≡ record old { held = old.held ++ piece }
+  pub none : HasNoText old.kind (bytes ++ piece)
+  pub waiting : IsWaiting old.kind (bytes ++ piece)
+  pub kind : new.kind ≡ old.kind
+  pub after : StandsFor new (bytes ++ piece)
 
 -- no message can begin so: from then on it has failed
-pub record Fails (fact : Kind → List ℕ → Type 0) (old : Reading) (piece : List ℕ) (new : Reading) : Type 0 where
-  pub is : fact old.kind (old.held ++ piece)
-  pub none : HasNoText old.kind (old.held ++ piece)
+pub record Fails (fact : Kind → List ℕ → Type 0) (old : Reading) (bytes piece : List ℕ) (new : Reading) : Type 0 where
+  pub is : fact old.kind (bytes ++ piece)
+  pub none : HasNoText old.kind (bytes ++ piece)
   pub kind : new.kind ≡ old.kind
   pub after : new.has_failed ≡ true
+
+-- it stands for what it stood for
+pub record Stays (old new : Reading) : Type 0 where
+  pub kind : new.kind ≡ old.kind
+  pub failed : new.has_failed ≡ old.has_failed
+  pub stands : (bytes : List ℕ) → StandsFor old bytes → StandsFor new bytes
 
 -- this fault is told, or want of memory
 abbrev pub TellsOf : {A : Type 0} → HttpFault → Result A HttpFault → Type 0

@@ -1,6 +1,6 @@
 -- What an Authorization field of the scheme X-Matrix says (Matrix, Server-Server API, "Request Authentication"), and its text, in the
 -- shape of credentials (RFC 9110, section 11.4). The grammar is this server's own, and lenient.
-use Rattle.std.specs.Prelude.{◌≡◌, ◌≢◌, ◌⊎◌, ℕ, List, [], ◌∷◌, ◌++◌, ◌==◌, ◌&&◌, ◌||◌, Bool, not, IsTrue, Option, length, map, nat_lt, if◌then◌else◌, bytes_eq, codes, refl}
+use Rattle.std.specs.Prelude.{◌≡◌, ◌≢◌, ◌⊎◌, ℕ, List, [], ◌∷◌, ◌++◌, ◌==◌, ◌&&◌, ◌||◌, Bool, not, IsTrue, Option, length, map, if◌then◌else◌, bytes_eq, codes, refl}
 use Rattle.std.specs.Char.{to_ascii_lowercase}
 use Rattle.std.specs.Coded.{Coded, code_by, coded×, coded_ℕ, coded_list, coded_option}
 use Rattle.std.specs.List.{list_all}

@@ -1,12 +1,12 @@
 -- What the clauses of private functions say of a text that is scanned.
-use Rattle.std.specs.Prelude.{◌≡◌, ℕ, suc, List, [], ◌∷◌, ◌++◌, ◌==◌, ◌≤◌, ◌&&◌, Bool, true, false, not, IsTrue, Option, Some, None, option_map, if◌then◌else◌, slice_index, length, map, codes}
+use Rattle.std.specs.Prelude.{◌≡◌, ℕ, suc, List, [], ◌∷◌, ◌++◌, ◌==◌, ◌≤◌, Bool, true, false, IsTrue, Option, Some, None, option_map, if◌then◌else◌, length, map, codes}
 use Rattle.std.specs.Char.{to_ascii_lowercase}
 use Rattle.std.specs.List.{list_all}
 use Rattle.fed_http.specs.declared.parameter.Raw.{Raw}
 use Rattle.fed_http.specs.declared.parameter.Parameter.{Parameter as Scanned}
 use Rattle.fed_http.specs.declared.found.Found.{Found}
 use Rattle.fed_http.specs.declared.said.Said.{Said}
-use Rattle.fed_http.specs.XMatrix.{XMatrixValue, is_white, is_delimiter, is_plain, is_name_char, IsRunOf, IsWhite, IsWritten, Parameter, AreFurther, AreParameters, values_under, Says}
+use Rattle.fed_http.specs.XMatrix.{XMatrixValue, is_delimiter, is_name_char, IsRunOf, IsWhite, IsWritten, Parameter, values_under, Says}
 
 -- where the quote stands that ends a quoted value, whose first character stands behind a backslash or not
 abbrev pub quote_index : Bool → List ℕ → Option ℕ

@@ -43,9 +43,9 @@ pub fn who_waits_has_no_fault()
     ensures { (kind : Kind) (bytes : List ℕ) (fault : HttpFault) → fault ≢ Memory → IsFault kind bytes fault → IsWaiting kind bytes → ⊥ }
 {}
 
-/// What a reader gives does not depend on how its stream is cut: of two cuttings of the same bytes, in which it waits until it gives a
-/// message, both give the same message, and at the same place.
+/// What a reader gives does not depend on how its stream is cut: of two cuttings of the same bytes, in which a reader that stands for the
+/// same bytes waits until it gives a message, both give the same message, and at the same place.
 pub fn cutting_does_not_matter()
-    ensures { (old : Reading) (pieces others : List (List ℕ)) (m n : Message) (place other : ℕ) → flat_map (λ piece. piece) pieces ≡ flat_map (λ piece. piece) others
-        → GivesInPieces m old pieces place → GivesInPieces n old others other → (m ≡ n) × (place ≡ other) }
+    ensures { (old : Reading) (bytes : List ℕ) (pieces others : List (List ℕ)) (m n : Message) (place other : ℕ) → flat_map (λ piece. piece) pieces ≡ flat_map (λ piece. piece) others
+        → GivesInPieces m old bytes pieces place → GivesInPieces n old bytes others other → (m ≡ n) × (place ≡ other) }
 {}

@@ -61,8 +61,8 @@ pub use fault::HttpFault;
 pub use field::Field;
 pub use framing::Framing;
 pub use laws::{
-    bytes_have_one_fault, faults_are_final, faults_stay, texts_are_read_in_one_way,
-    who_waits_has_no_fault, who_waits_has_no_message,
+    bytes_have_one_fault, cutting_does_not_matter, faults_are_final, faults_stay,
+    texts_are_read_in_one_way, who_waits_has_no_fault, who_waits_has_no_message,
 };
 pub use limits::{MAX_BODY, MAX_FIELDS, MAX_HEAD, MAX_LENGTH_DIGITS};
 pub use message::{Kind, Message};

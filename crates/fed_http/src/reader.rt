@@ -1,8 +1,8 @@
 // A reader of a stream of messages.
-ghost use Rattle.std.specs.Prelude.{◌≡◌, ◌≢◌, ◌++◌, true, false, Ok, Err, IfOk, IfSome, IfNone};
+ghost use Rattle.std.specs.Prelude.{◌≡◌, ◌≢◌, [], ◌++◌, List, ℕ, true, false, Ok, Err, IfOk, IfSome, IfNone};
 ghost use Rattle.fed_http.specs.Faults.{IsFault, IsBadHead, IsTooLarge, IsBadLength, IsBadChunk};
 ghost use Rattle.fed_http.specs.declared.fault.HttpFault.{HttpFault};
-ghost use Rattle.fed_http.specs.Reader.{started, Gives, Waits, Fails, TellsOf};
+ghost use Rattle.fed_http.specs.Reader.{StandsFor, Gives, Waits, Fails, Stays, TellsOf};
 
 use crate::copying::read;
 use crate::fault::HttpFault;
@@ -21,7 +21,8 @@ use std::marker::Model;
 ///
 /// It keeps the bytes since the last message, and looks at them anew with each piece. Bytes past a limit are not looked at.
 ///
-/// Contracts see it as what it reads, the bytes since the last message, and whether it has failed.
+/// Contracts say of what it is given by the bytes that it stands for: those since it was made, or since it last gave a message. Some such
+/// bytes there are until it has failed.
 #[derive(Drop)]
 pub struct Reader {
     kind: Kind,
@@ -44,7 +45,8 @@ impl Model for Reader {
 impl Reader {
     /// A reader of requests, at the beginning of a stream.
     pub fn requests(alloc: Global) -> Reader
-        ensures { result ≡ started Kind.Requests }
+        ensures kind { result.kind ≡ Kind.Requests }
+        ensures stands { StandsFor result [] }
     {
         Reader {
             kind: Kind::Requests,
@@ -55,7 +57,8 @@ impl Reader {
 
     /// A reader of replies, at the beginning of a stream.
     pub fn replies(alloc: Global) -> Reader
-        ensures { result ≡ started Kind.Replies }
+        ensures kind { result.kind ≡ Kind.Replies }
+        ensures stands { StandsFor result [] }
     {
         Reader {
             kind: Kind::Replies,
@@ -64,12 +67,20 @@ impl Reader {
         }
     }
 
+    /// Whether an earlier call told of a fault. Where none did, the reader stands for some bytes.
+    pub fn has_failed(&self) -> bool
+        ensures failed { result ≡ self.now.has_failed }
+        ensures stands { self.now.has_failed ≡ false → (bytes : List ℕ) × StandsFor self.now bytes }
+    {
+        self.has_failed
+    }
+
     /// The message that the bytes up to some of this piece are the text of, and how many bytes of the piece these are. Where no message
     /// is whole yet, `None` and all bytes of the piece.
     ///
     /// # Errors
     ///
-    /// `Memory` where memory ran out: the reader is as before, and the piece may be given again. Where the bytes can begin no message,
+    /// `Memory` where memory ran out: the reader stands for the same bytes as before, and the piece may be given again. Where the bytes can begin no message,
     /// and each later call answers `HasFailed`:
     ///
     /// - `BadHead`: whatever follows, no head with at most `MAX_FIELDS` fields is at the front; or a reply's status is below 200; or a
@@ -83,20 +94,20 @@ impl Reader {
         alloc: Global,
         piece: &[u8],
     ) -> Result<(Option<Message>, usize), HttpFault>
-        ensures given { IfOk result (λ fed. IfSome fed.0 (λ m. Gives self.old piece.now self.new m fed.1)) }
-        ensures waits { IfOk result (λ fed. IfNone fed.0 (Waits self.old piece.now self.new fed.1)) }
-        ensures memory { result ≡ Err HttpFault.Memory → self.new ≡ self.old }
-        ensures bad_head { result ≡ Err HttpFault.BadHead → Fails IsBadHead self.old piece.now self.new }
-        ensures too_large { result ≡ Err HttpFault.TooLarge → Fails IsTooLarge self.old piece.now self.new }
-        ensures bad_length { result ≡ Err HttpFault.BadLength → Fails IsBadLength self.old piece.now self.new }
-        ensures bad_chunk { result ≡ Err HttpFault.BadChunk → Fails IsBadChunk self.old piece.now self.new }
+        ensures given { (bytes : List ℕ) → StandsFor self.old bytes → IfOk result (λ fed. IfSome fed.0 (λ m. Gives self.old bytes piece.now self.new m fed.1)) }
+        ensures waits { (bytes : List ℕ) → StandsFor self.old bytes → IfOk result (λ fed. IfNone fed.0 (Waits self.old bytes piece.now self.new fed.1)) }
+        ensures memory { result ≡ Err HttpFault.Memory → Stays self.old self.new }
+        ensures bad_head { (bytes : List ℕ) → StandsFor self.old bytes → result ≡ Err HttpFault.BadHead → Fails IsBadHead self.old bytes piece.now self.new }
+        ensures too_large { (bytes : List ℕ) → StandsFor self.old bytes → result ≡ Err HttpFault.TooLarge → Fails IsTooLarge self.old bytes piece.now self.new }
+        ensures bad_length { (bytes : List ℕ) → StandsFor self.old bytes → result ≡ Err HttpFault.BadLength → Fails IsBadLength self.old bytes piece.now self.new }
+        ensures bad_chunk { (bytes : List ℕ) → StandsFor self.old bytes → result ≡ Err HttpFault.BadChunk → Fails IsBadChunk self.old bytes piece.now self.new }
+
+        // Of bytes that have a fault, it is told, or want of memory.
+        ensures told { (bytes : List ℕ) (fault : HttpFault) → StandsFor self.old bytes → fault ≢ HttpFault.Memory → IsFault self.old.kind (bytes ++ piece.now) fault → TellsOf fault result }
 
         // A reader that has failed says so, without memory.
         ensures failed { self.old.has_failed ≡ true → (result ≡ Err HttpFault.HasFailed) × (self.new ≡ self.old) }
         ensures only_failed { result ≡ Err HttpFault.HasFailed → self.old.has_failed ≡ true }
-
-        // Of bytes that have a fault, it is told, or want of memory.
-        ensures told { (fault : HttpFault) → self.old.has_failed ≡ false → fault ≢ HttpFault.Memory → IsFault self.old.kind (self.old.held ++ piece.now) fault → TellsOf fault result }
     {
         if self.has_failed {
             return Err(HttpFault::HasFailed);

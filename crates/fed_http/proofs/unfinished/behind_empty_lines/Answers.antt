@@ -1,4 +1,3 @@
-use Rattle.std.proofs.Common.{◌≡◌, length, take, drop, ap, ◌∙◌, sym}
 use Rattle.fed_http.proofs.Windows.{to_end}
 use Rattle.fed_http.proofs.Targets.{one_more}
 use Rattle.fed_http.proofs.unfinished.behind_empty_lines.Goals as goal

@@ -1,4 +1,4 @@
-use Rattle.std.proofs.Common.{◌≡◌, ◌∙◌, ◌++◌, take, drop, sym, ap, append-nil}
+use Rattle.std.proofs.Common.{◌∙◌, ◌++◌, take, drop, sym, ap, append-nil}
 use Rattle.fed_http.specs.Lines.{first_lines}
 use Rattle.fed_http.proofs.FirstLines.{first_of_none}
 use Rattle.fed_http.proofs.unfinished.first_lines.Goals as goal

@@ -1,4 +1,4 @@
-use Rattle.std.proofs.Common.{subst, sym}
+use Rattle.std.proofs.Common.{subst, sym, refl}
 use Rattle.fed_http.specs.Text.{HasNoText}
 use Rattle.fed_http.specs.declared.message.Kind.TheVariants.{Replies}
 use Rattle.fed_http.proofs.Feeds.{empty_has_no_text}
@@ -6,3 +6,6 @@ use Rattle.fed_http.proofs.reader.Reader.replies.Goals as goal
 
 pub invariant_of-result : goal.invariant_of-result
 invariant_of-result c fresh = subst (HasNoText Replies) (sym c.new.ensures.items) (empty_has_no_text Replies)
+
+pub returns-clause-stands : goal.returns-clause-stands
+returns-clause-stands c = record { live = refl; none = empty_has_no_text Replies; held = c.new.ensures.items }

@@ -1,6 +1,6 @@
 use Rattle.std.proofs.Common.{◌≡◌, ◌+◌, ◌++◌, [], drop, refl, sym, ap, ◌∙◌, rules}
 use Rattle.std.proofs.lemmas.Bool.{false≢true}
-use Rattle.fed_http.specs.Framing.{values_of, only_of}
+use Rattle.fed_http.specs.Framing.{values_of}
 use Rattle.fed_http.proofs.Values.{found_list, one_more, as_before, two_found}
 use Rattle.fed_http.proofs.OnlyValues.{named_there, unnamed_there, found_only, not_only, none_left}
 use Rattle.fed_http.proofs.request.Request.only.Goals as goal
