@@ -1,5 +1,5 @@
 -- What is signed for a request (Matrix, Server-Server API, "Request Authentication"), and the request with its signature.
-use Rattle.std.specs.Prelude.{◌<◌, ◌≤◌, IsUtf8, ℕ, List, [], ◌∷◌, Option, Some, option_and_then, codes, decimal, length}
+use Rattle.std.specs.Prelude.{◌<◌, ◌≤◌, IsUtf8, ℕ, List, [], ◌∷◌, ◌++◌, Option, Some, option_and_then, codes, decimal, length}
 use Rattle.serde_json.specs.Data.{Data, string, object, no_members, member}
 use Rattle.fed_json.specs.CanonicalText.{canonical_text}
 use Rattle.httparse.specs.Grammar.{IsToken, AllPass, is_uri_byte}
@@ -30,6 +30,30 @@ signed_value asked =
 abbrev pub signed_text : Asked → List ℕ
 signed_text asked = canonical_text (signed_value asked)
 
+-- a request with the bytes of its body
+pub record Signable : Type 0 where
+  pub method : List ℕ
+  pub target : List ℕ
+  pub origin : List ℕ
+  pub destination : List ℕ
+  pub content : List ℕ
+
+-- the member of the body, whose bytes stand as they are; none where it is empty
+abbrev pub content_member : List ℕ → List ℕ
+content_member [] = []
+content_member (b ∷ bytes) = codes "\"content\":" ++ ((b ∷ bytes) ++ codes ",")
+
+-- a key and a text as its value
+abbrev pub text_member : List ℕ → List ℕ → List ℕ
+text_member key value = key ++ canonical_text (string value)
+
+-- The bytes that are signed, for every body: `{"content":..,"destination":..,"method":..,"origin":..,"uri":..}`, without `content` where the
+-- body is empty. Where the body is a canonical text they are the canonical text of `signed_value`; else they are no JSON text.
+abbrev pub signed_bytes : Signable → List ℕ
+signed_bytes s =
+    codes "{" ++ (content_member s.content ++ (text_member (codes "\"destination\":") s.destination ++ (text_member (codes ",\"method\":") s.method
+    ++ (text_member (codes ",\"origin\":") s.origin ++ (text_member (codes ",\"uri\":") s.target ++ codes "}")))))
+
 -- the server that a request is for: what its one field Host says (RFC 9110, section 7.2)
 abbrev pub host_of : RequestValue → Option (List ℕ)
 host_of request = option_and_then if_text (only_of (values_of (codes "host") request.fields))
@@ -37,6 +61,10 @@ host_of request = option_and_then if_text (only_of (values_of (codes "host") req
 -- the header of a request that is signed by the sender's key of this name
 abbrev pub header_of : Asked → List ℕ → (List ℕ → List ℕ) → XMatrixValue
 header_of asked key sign = record { origin = asked.origin; destination = Some asked.destination; key = key; signature = sign (signed_text asked) }
+
+-- the same for a request with these bytes as its body
+abbrev pub header_for : Signable → List ℕ → (List ℕ → List ℕ) → XMatrixValue
+header_for s key sign = record { origin = s.origin; destination = Some s.destination; key = key; signature = sign (signed_bytes s) }
 
 -- the fields of a request with a body of so many bytes
 abbrev pub sent_fields : List ℕ → List ℕ → ℕ → List (List ℕ × List ℕ)
@@ -55,6 +83,15 @@ request_of asked key sign = record {
   target = asked.target;
   fields = sent_fields asked.destination (header_text (header_of asked key sign)) (length (canonical_text asked.content));
   body = canonical_text asked.content;
+}
+
+-- the same for these bytes as its body
+abbrev pub request_for : Signable → List ℕ → (List ℕ → List ℕ) → RequestValue
+request_for s key sign = record {
+  method = s.method;
+  target = s.target;
+  fields = sent_fields s.destination (header_text (header_for s key sign)) (length s.content);
+  body = s.content;
 }
 
 -- the request is of the grammar (RFC 9112, section 3) and within the limits

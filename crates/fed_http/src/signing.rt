@@ -1,9 +1,9 @@
 // What is signed for a request, and the request with its signature.
-ghost use Rattle.std.specs.Prelude.{◌≡◌, ◌++◌, ◌∷◌, ℕ, [], Some, None, Err, List, IfOk, OnOk, MatchResult, string_bytes};
+ghost use Rattle.std.specs.Prelude.{◌≡◌, ◌<◌, ◌++◌, ◌∷◌, ℕ, [], length, Some, None, Err, List, IfOk, OnOk, MatchResult, string_bytes};
 ghost use Rattle.serde_json.specs.Data.{Data, string};
 ghost use Rattle.fed_json.specs.CanonicalText.{canonical_text, IsCanonicalText};
 ghost use Rattle.fed_json.specs.Profile.{IsProfile};
-ghost use Rattle.fed_http.specs.Signing.{signed_text, signed_value, host_of, header_of, request_of, sent_fields};
+ghost use Rattle.fed_http.specs.Signing.{content_member, signed_bytes, signed_text, signed_value, host_of, header_for, header_of, request_for, request_of, sent_fields};
 ghost use Rattle.fed_http.specs.declared.signing.SignFault.TheVariants.{Memory};
 
 use crate::field::Field;
@@ -33,8 +33,9 @@ impl From<NoMemory> for SignFault {
     }
 }
 
-/// The text that is signed for a request (Server-Server API, "Request Authentication"): the canonical JSON of its method, its target as it
-/// is written, its sender, its receiver and its body. The body, `content`, is given as its canonical text and copied once.
+/// The bytes that are signed for a request (Server-Server API, "Request Authentication"): an object of its body, its receiver, its method, its
+/// sender and its target as it is written, in this order. The body, `content`, is given as its bytes, which stand there as they are; of an
+/// empty one there is no `content`. Where the body is a canonical text the result is the canonical JSON of the object; else it is no JSON.
 pub fn request_text(
     alloc: Global,
     method: &str,
@@ -43,19 +44,35 @@ pub fn request_text(
     destination: &str,
     content: &[u8],
 ) -> Result<Vec<u8>, NoMemory>
-    ensures exact { (v : Data) → content.now ≡ canonical_text v → IfOk result (λ text. text.items
+    ensures bytes { IfOk result (λ text. text.items
+        ≡ signed_bytes (record { method = method.now; target = target.now; origin = origin.now; destination = destination.now; content = content.now })) }
+    ensures exact { (v : Data) → 0 < length content.now → content.now ≡ canonical_text v → IfOk result (λ text. text.items
         ≡ signed_text (record { method = method.now; target = target.now; origin = origin.now; destination = destination.now; content = v })) }
     ensures canonical { (v : Data) → IsProfile v → content.now ≡ canonical_text v → IfOk result (λ text. IsCanonicalText
         (signed_value (record { method = method.now; target = target.now; origin = origin.now; destination = destination.now; content = v })) text.items) }
 {
     let mut text = Vec::new(alloc);
-    text.extend_from_slice(b"{\"content\":")?;
-    text.extend_from_slice(content)?;
-    let text = with_member(alloc, text, b",\"destination\":", destination)?;
+    text.push(b'{')?;
+    let text = with_content(text, content)?;
+    let text = with_member(alloc, text, b"\"destination\":", destination)?;
     let text = with_member(alloc, text, b",\"method\":", method)?;
     let text = with_member(alloc, text, b",\"origin\":", origin)?;
     let mut text = with_member(alloc, text, b",\"uri\":", target)?;
     text.push(b'}')?;
+    Ok(text)
+}
+
+// A text with the member of a body behind it, unless it is empty.
+fn with_content(text: Vec<u8>, content: &[u8]) -> Result<Vec<u8>, NoMemory>
+    ensures { IfOk result (λ whole. whole.items ≡ text.items ++ content_member content.now) }
+{
+    let mut text = text;
+    if content.is_empty() {
+        return Ok(text);
+    }
+    text.extend_from_slice(b"\"content\":")?;
+    text.extend_from_slice(content)?;
+    text.push(b',')?;
     Ok(text)
 }
 
@@ -80,7 +97,10 @@ pub fn sign<K: Keys>(
     content: &[u8],
     keys: &K,
 ) -> Result<XMatrix, NoMemory>
-    ensures { (v : Data) → content.now ≡ canonical_text v → IfOk result (λ h. h
+    ensures signed { IfOk result (λ h. h
+        ≡ header_for (record { method = method.now; target = target.now; origin = K.own_name keys.now; destination = destination.now; content = content.now })
+        (K.own_key keys.now) (K.own_signature keys.now)) }
+    ensures of_value { (v : Data) → 0 < length content.now → content.now ≡ canonical_text v → IfOk result (λ h. h
         ≡ header_of (record { method = method.now; target = target.now; origin = K.own_name keys.now; destination = destination.now; content = v })
         (K.own_key keys.now) (K.own_signature keys.now)) }
 {
@@ -93,7 +113,7 @@ pub fn sign<K: Keys>(
 }
 
 /// What the own server says in the Authorization field of this request, which it is about to send: as `sign`, to the server that the request's
-/// one field Host names. The request's body is a canonical text.
+/// one field Host names.
 ///
 /// # Errors
 ///
@@ -104,8 +124,8 @@ pub fn sign_request<K: Keys>(
     request: &Request,
     keys: &K,
 ) -> Result<XMatrix, SignFault>
-    ensures signed { (host : List ℕ) (v : Data) → host_of request.now ≡ Some host → request.now.body ≡ canonical_text v → MatchResult result
-        (λ h. h ≡ header_of (record { method = request.now.method; target = request.now.target; origin = K.own_name keys.now; destination = host; content = v })
+    ensures signed { (host : List ℕ) → host_of request.now ≡ Some host → MatchResult result
+        (λ h. h ≡ header_for (record { method = request.now.method; target = request.now.target; origin = K.own_name keys.now; destination = host; content = request.now.body })
         (K.own_key keys.now) (K.own_signature keys.now)) (λ fault. fault ≡ SignFault.Memory) }
     ensures no_host { host_of request.now ≡ None → result ≡ Err SignFault.NoHost }
 {
@@ -125,7 +145,10 @@ pub fn is_signed<K: Keys>(
     content: &[u8],
     keys: &K,
 ) -> Result<bool, NoMemory>
-    ensures { (v : Data) → content.now ≡ canonical_text v → IfOk result (λ checks. checks
+    ensures signed { IfOk result (λ checks. checks
+        ≡ K.checks keys.now header.now.origin header.now.key
+        (signed_bytes (record { method = method.now; target = target.now; origin = header.now.origin; destination = own.now; content = content.now })) header.now.signature) }
+    ensures of_value { (v : Data) → 0 < length content.now → content.now ≡ canonical_text v → IfOk result (λ checks. checks
         ≡ K.checks keys.now header.now.origin header.now.key
         (signed_text (record { method = method.now; target = target.now; origin = header.now.origin; destination = own.now; content = v })) header.now.signature) }
 {
@@ -134,7 +157,7 @@ pub fn is_signed<K: Keys>(
 }
 
 /// The request that the own server sends to the server `destination`, with its signature: the fields Host, Authorization, Content-Type,
-/// Content-Length and Connection, in this order, and the body `content`, which is a canonical text.
+/// Content-Length and Connection, in this order, and the body `content`. What is signed is its `request_text`.
 pub fn signed_request<K: Keys>(
     alloc: Global,
     method: &str,
@@ -143,7 +166,10 @@ pub fn signed_request<K: Keys>(
     content: Vec<u8>,
     keys: &K,
 ) -> Result<Request, NoMemory>
-    ensures { (v : Data) → content.items ≡ canonical_text v → IfOk result (λ r. r
+    ensures signed { IfOk result (λ r. r
+        ≡ request_for (record { method = method.now; target = target.now; origin = K.own_name keys.now; destination = destination.now; content = content.items })
+        (K.own_key keys.now) (K.own_signature keys.now)) }
+    ensures of_value { (v : Data) → 0 < length content.items → content.items ≡ canonical_text v → IfOk result (λ r. r
         ≡ request_of (record { method = method.now; target = target.now; origin = K.own_name keys.now; destination = destination.now; content = v })
         (K.own_key keys.now) (K.own_signature keys.now)) }
 {

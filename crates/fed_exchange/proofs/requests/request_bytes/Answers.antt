@@ -1,4 +1,4 @@
-use Rattle.std.proofs.Common.{◌≡◌, ◌≤◌, ◌∙◌, List, ℕ, length, Ok, ap, sym, subst, codes}
+use Rattle.std.proofs.Common.{arith, ◌≡◌, ◌<◌, ◌≤◌, ◌∙◌, List, ℕ, length, Ok, ap, sym, subst, codes}
 use Rattle.std.proofs.lemmas.Result.{IfOk-weaker}
 use Rattle.fed_json.specs.CanonicalText.{canonical_text}
 use Rattle.fed_outbox.specs.Seen.{seen}
@@ -17,9 +17,10 @@ returns-clause-exact g c =
     let sign = g.K.Keys.own_signature c.args.keys.now in
     let t = seen c.args.transaction.now in
     let body = c.in_ok-body.ensures.exact ∙ ap (λ (o : List ℕ). canonical_text (body_value o t)) c.own.ensures in
+    let some : 0 < length c.in_ok-body.body.items = omega (arith, ap length body) in
     let targeted : List ℕ → Asked = λ target. record { method = codes "PUT"; target = target; origin = own; destination = c.args.dest.now; content = body_value own t } in
     let request : c.in_ok-request.request ≡ request_of (asked_of own c.args.dest.now c.args.epoch t) key sign =
-    c.in_ok-request.ensures (body_value own t) body ∙ ap (λ target. request_of (targeted target) key sign) (c.deref.ensures ∙ c.in_ok-target.ensures.text) in
+    c.in_ok-request.ensures.of_value (body_value own t) some body ∙ ap (λ target. request_of (targeted target) key sign) (c.deref.ensures ∙ c.in_ok-target.ensures.text) in
     IfOk-weaker c.write_request.result _ _ (λ bytes exact. exact ∙ ap (λ (r : RequestValue). request_bytes r) request) c.write_request.ensures.exact
 
 pub returns-clause-read_back : goal.returns-clause-read_back
