@@ -1,6 +1,6 @@
 -- How the lanes of a journal follow its entries.
 use Rattle.std.proofs.Common.{arith, ◌≡◌, ℕ, zero, suc, ◌+◌, ◌-◌, ◌<◌, ◌≤◌, ◌^◌, ◌==◌, Bool, true, false, not, ◌||◌, if◌then◌else◌, List, [], ◌∷◌, ◌++◌, length, Option, Some, None, is_some, nat_lt, take, vec_len, vec_capacity, get_or, refl, sym, ap, ◌∙◌, subst, length-append}
-use Rattle.std.specs.List.{slice_get, filter_map, prefix_len, cons_option}
+use Rattle.std.specs.List.{slice_get, filter_map, cons_option}
 use Rattle.std.specs.Option.{option_map}
 use Rattle.std.proofs.lemmas.List.{append-nil, length_push}
 use Rattle.std.proofs.lemmas.List.Elements.{filter_map-append}
@@ -15,12 +15,12 @@ use Rattle.fed_journal.specs.declared.entry.Entry.{Entry}
 use Rattle.fed_journal.specs.declared.entry.Entry.TheVariants.{Event, Edu, Close}
 use Rattle.fed_journal.specs.declared.parcel.Load.TheVariants as load
 use Rattle.fed_journal.specs.declared.lane.Kind.TheVariants as kind
-use Rattle.fed_journal.specs.Journal.{closes, is_closed, before_close, event_for, edu_for, load_for, end_of, event_in, edu_in, events_of, edus_of, addressed, addressed_edus, placed, next_place}
+use Rattle.fed_journal.specs.Journal.{closes, open_after, is_open, is_closed, reaching, event_for, edu_for, load_for, end_of, event_in, edu_in, events_of, edus_of, addressed, addressed_edus, placed, next_place}
 use Rattle.fed_journal.specs.Lane.{LaneState, place_after, reached, closed_by, with_room, HasRoom, AreChanged, ArePartlyChanged}
 use Rattle.fed_journal.specs.Standing.{picked, what_stands, places_from}
 use Rattle.fed_journal.specs.JournalParts.{IsLane, AreLanes, IsJournal}
 use Rattle.fed_journal.specs.declared.journal.Journal.TheInside.{Inside}
-use Rattle.fed_journal.proofs.Entries.{before-cons, one_before, closing_event, closing_edu, before-append, is_closed-more, is_closed-one, placed-more, loads-one, placed_within}
+use Rattle.fed_journal.proofs.Entries.{shut_stays, none_reaches, reaching-append, is_closed-more, is_closed-one, placed-more, loads-one, placed_within}
 use Rattle.fed_journal.proofs.Lanes.{chosen_change}
 
 -- where an entry stands from which something is picked
@@ -36,33 +36,26 @@ places-append f n (x ∷ xs) ys = by (is_some (f x)) (places-append f (n + 1) xs
     by true rest = ap (λ zs. n ∷ zs) rest
     by false rest = rest
 
--- while the outbox is open all entries come before its closing
-before_all : (d : ℕ) (xs : List Entry) → is_closed xs d ≡ false → before_close d xs ≡ xs
-before_all d [] shut_not = refl
-before_all d (x ∷ xs) shut_not = before-cons d x xs ∙ by (closes d x) shut_not (before_all d xs)
+-- while the outbox is open all entries reach it
+all_reach : (d : ℕ) (xs : List Entry) → is_closed xs d ≡ false → reaching d true xs ≡ xs
+all_reach d [] shut_not = refl
+all_reach d (x ∷ xs) shut_not = ap (λ zs. x ∷ zs) (by (not (closes d x)) (all_reach d xs) shut_not)
   where
-    by : (b : Bool) → (b || is_closed xs d) ≡ false → (is_closed xs d ≡ false → before_close d xs ≡ xs) → (if b then [] else x ∷ before_close d xs) ≡ x ∷ xs
-    by true shut_not rest = absurd (cc)
-    by false shut_not rest = ap (λ zs. x ∷ zs) (rest shut_not)
+    by : (was_open : Bool) → (is_closed xs d ≡ false → reaching d true xs ≡ xs) → not (is_open d was_open xs) ≡ false → reaching d was_open xs ≡ xs
+    by true rest still = rest still
+    by false rest still = absurd (let shut = ap not (shut_stays d xs) in cc)
 
-module _ {X : Type 0} (f : Entry → Option X) (d : ℕ) (entries : List Entry) (entry : Entry) (one : (n : ℕ) → places_from f n (before_close d (entry ∷ [])) ≡ standing f n entry) where
-  places-more : places_from f 0 (before_close d (entries ++ entry ∷ []))
-      ≡ (if is_closed entries d then places_from f 0 (before_close d entries) else places_from f 0 (before_close d entries) ++ standing f (length entries) entry)
-  places-more = ap (places_from f 0) (before-append d entries (entry ∷ [])) ∙ by (is_closed entries d) (before_all d entries)
+module _ {X : Type 0} (f : Entry → Option X) (d : ℕ) (entries : List Entry) (entry : Entry) where
+  places-more : places_from f 0 (reaching d true (entries ++ entry ∷ []))
+      ≡ (if is_closed entries d then places_from f 0 (reaching d true entries) else places_from f 0 (reaching d true entries) ++ standing f (length entries) entry)
+  places-more = ap (places_from f 0) (reaching-append d entries (entry ∷ [])) ∙ by (is_closed entries d) (all_reach d entries)
     where
-      by : (b : Bool) → (b ≡ false → before_close d entries ≡ entries)
-          → places_from f 0 (before_close d entries ++ (if b then [] else before_close d (entry ∷ []))) ≡ (if b then places_from f 0 (before_close d entries) else places_from f 0 (before_close d entries) ++ standing f (length entries) entry)
-      by true all = ap (places_from f 0) (append-nil (before_close d entries))
+      by : (b : Bool) → (b ≡ false → reaching d true entries ≡ entries)
+          → places_from f 0 (reaching d true entries ++ (if b then [] else entry ∷ [])) ≡ (if b then places_from f 0 (reaching d true entries) else places_from f 0 (reaching d true entries) ++ standing f (length entries) entry)
+      by true all = ap (places_from f 0) (append-nil (reaching d true entries))
       by false all =
-          places-append f 0 (before_close d entries) (before_close d (entry ∷ []))
-          ∙ ap (λ m. places_from f 0 (before_close d entries) ++ places_from f m (before_close d (entry ∷ []))) (let same = ap length (all refl) in omega arith)
-          ∙ ap (λ zs. places_from f 0 (before_close d entries) ++ zs) (one (length entries))
-
-event_standing : (d : ℕ) (entry : Entry) (n : ℕ) → places_from (event_for d) n (before_close d (entry ∷ [])) ≡ standing (event_for d) n entry
-event_standing d entry n = one_before (places_from (event_for d) n) d entry (λ shut. ap (λ o. if is_some o then n ∷ [] else []) (closing_event d entry shut))
-
-edu_standing : (d : ℕ) (entry : Entry) (n : ℕ) → places_from (edu_for d) n (before_close d (entry ∷ [])) ≡ standing (edu_for d) n entry
-edu_standing d entry n = one_before (places_from (edu_for d) n) d entry (λ shut. ap (λ o. if is_some o then n ∷ [] else []) (closing_edu d entry shut))
+          places-append f 0 (reaching d true entries) (entry ∷ [])
+          ∙ ap (λ m. places_from f 0 (reaching d true entries) ++ places_from f m (entry ∷ [])) (let same = ap length (all refl) in omega arith)
 
 -- a lane that gets these places and so many parcels, and is closed by that
 record Gets (es us : List ℕ) (count : ℕ) (closing : Bool) (old new : LaneState) : Type 0 where
@@ -78,8 +71,8 @@ Follows d n entry = Gets (standing (event_for d) n entry) (standing (edu_for d) 
 
 follows : (entries : List Entry) (reserved d : ℕ) (entry : Entry) (old new : LaneState) → IsLane entries reserved d old → Follows d (length entries) entry old new → IsLane (entries ++ entry ∷ []) (reserved - 1) d new
 follows entries reserved d entry old new is gets = record {
-  events = gets.events ∙ together (λ b (xs : List ℕ). if b then xs else xs ++ standing (event_for d) (length entries) entry) is.closed is.events ∙ sym (places-more (event_for d) d entries entry (event_standing d entry));
-  edus = gets.edus ∙ together (λ b (xs : List ℕ). if b then xs else xs ++ standing (edu_for d) (length entries) entry) is.closed is.edus ∙ sym (places-more (edu_for d) d entries entry (edu_standing d entry));
+  events = gets.events ∙ together (λ b (xs : List ℕ). if b then xs else xs ++ standing (event_for d) (length entries) entry) is.closed is.events ∙ sym (places-more (event_for d) d entries entry);
+  edus = gets.edus ∙ together (λ b (xs : List ℕ). if b then xs else xs ++ standing (edu_for d) (length entries) entry) is.closed is.edus ∙ sym (places-more (edu_for d) d entries entry);
   placed = gets.placed ∙ together (λ b (n : ℕ). if b then n else n + length (filter_map (load_for d) (entry ∷ []))) is.closed is.placed
       ∙ sym (placed-more entries (entry ∷ []) d ∙ ap (λ xs. if is_closed entries d then placed entries d else placed entries d + length xs) (loads-one d entry));
   closed = gets.closed ∙ ap (λ b. b || closes d entry) is.closed ∙ sym (is_closed-more entries (entry ∷ []) d ∙ ap (λ b. is_closed entries d || b) (is_closed-one d entry));
@@ -146,11 +139,12 @@ stands {X} f g picks all n (x ∷ xs) within =
     by None pick here rest = rest
     by (Some y) pick here rest = ap (λ o. cons_option (picked g o) (what_stands g all (places_from f (n + 1) xs))) here ∙ ap (λ o. cons_option o (what_stands g all (places_from f (n + 1) xs))) (pick y refl) ∙ ap (λ ys. y ∷ ys) rest
 
-in_front : (m : ℕ) (xs : List Entry) (k : ℕ) (entry : Entry) → slice_get (take m xs) k ≡ Some entry → slice_get xs k ≡ Some entry
-in_front zero xs k entry e = absurd (cc)
-in_front (suc m) [] k entry e = absurd (cc)
-in_front (suc m) (x ∷ xs) zero entry e = e
-in_front (suc m) (x ∷ xs) (suc k) entry e = in_front m xs k entry e
+-- what reaches an outbox that is open at first stands where it stands among all
+in_front : (d : ℕ) (was_open : Bool) (xs : List Entry) (k : ℕ) (entry : Entry) → slice_get (reaching d was_open xs) k ≡ Some entry → slice_get xs k ≡ Some entry
+in_front d was_open [] k entry e = e
+in_front d true (x ∷ xs) zero entry e = e
+in_front d true (x ∷ xs) (suc k) entry e = in_front d (open_after d true x) xs k entry e
+in_front d false (x ∷ xs) k entry e = absurd (let none = ap (λ es. slice_get es k) (none_reaches d xs) in cc)
 
 event_picked : (d : ℕ) (entry : Entry) (event : CheckedEvent) → event_for d entry ≡ Some event → event_in entry ≡ Some event
 event_picked d (Event event dests) x e = by (is_among dests d) e
@@ -170,11 +164,11 @@ edu_picked d (Edu edu dests) x e = by (is_among dests d) e
 edu_picked d (Event event dests) x e = absurd (cc)
 edu_picked d (Close dest cause) x e = absurd (cc)
 
-pub addressed_stand : (entries : List Entry) (d : ℕ) → what_stands event_in entries (places_from (event_for d) 0 (before_close d entries)) ≡ addressed entries d
-addressed_stand entries d = stands (event_for d) event_in (event_picked d) entries 0 (before_close d entries) (λ k entry here. ap (λ m. slice_get entries m) (omega arith) ∙ in_front (prefix_len (λ entry. not (closes d entry)) entries) entries k entry here)
+pub addressed_stand : (entries : List Entry) (d : ℕ) → what_stands event_in entries (places_from (event_for d) 0 (reaching d true entries)) ≡ addressed entries d
+addressed_stand entries d = stands (event_for d) event_in (event_picked d) entries 0 (reaching d true entries) (λ k entry here. ap (λ m. slice_get entries m) (omega arith) ∙ in_front d true entries k entry here)
 
-pub edus_stand : (entries : List Entry) (d : ℕ) → what_stands edu_in entries (places_from (edu_for d) 0 (before_close d entries)) ≡ addressed_edus entries d
-edus_stand entries d = stands (edu_for d) edu_in (edu_picked d) entries 0 (before_close d entries) (λ k entry here. ap (λ m. slice_get entries m) (omega arith) ∙ in_front (prefix_len (λ entry. not (closes d entry)) entries) entries k entry here)
+pub edus_stand : (entries : List Entry) (d : ℕ) → what_stands edu_in entries (places_from (edu_for d) 0 (reaching d true entries)) ≡ addressed_edus entries d
+edus_stand entries d = stands (edu_for d) edu_in (edu_picked d) entries 0 (reaching d true entries) (λ k entry here. ap (λ m. slice_get entries m) (omega arith) ∙ in_front d true entries k entry here)
 
 -- room
 pub lanes_have_room : (entries : List Entry) (reserved : ℕ) (lanes : List LaneState) → 0 < reserved → length entries + reserved ≤ 2 ^ 53 → AreLanes entries reserved lanes → HasRoom lanes

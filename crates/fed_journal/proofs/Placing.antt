@@ -1,5 +1,5 @@
 -- The parcels that an entry places, and that none is placed behind an end.
-use Rattle.std.proofs.Common.{arith, ◌≡◌, ◌≢◌, ℕ, suc, ◌+◌, ◌==◌, Bool, true, false, ◌||◌, if◌then◌else◌, List, [], ◌∷◌, ◌++◌, length, map, drop, Option, Some, None, refl, sym, ap, ◌∙◌, subst}
+use Rattle.std.proofs.Common.{arith, ◌≡◌, ◌≢◌, ℕ, suc, ◌+◌, ◌==◌, Bool, true, false, ◌||◌, if◌then◌else◌, List, [], ◌∷◌, ◌++◌, length, map, drop, Option, Some, None, refl, sym, ap, ◌∙◌, subst, not}
 use Rattle.std.specs.List.{list_any, filter_map, cons_option}
 use Rattle.std.specs.Option.{option_map, option_to_list}
 use Rattle.std.proofs.lemmas.List.{append-nil, map-append}
@@ -16,12 +16,12 @@ use Rattle.fed_journal.specs.declared.parcel.Load.TheVariants as load
 use Rattle.fed_journal.specs.declared.parcel.Parcel.{Parcel}
 use Rattle.fed_journal.specs.declared.offered.Offered.{Offered}
 use Rattle.fed_journal.specs.declared.offered.Offered.TheVariants as offered
-use Rattle.fed_journal.specs.Journal.{is_closed, closes, through_close, event_for, edu_for, load_for, end_of, addressed, addressed_edus, loads, placed, next_place, numbered, parcels}
+use Rattle.fed_journal.specs.Journal.{is_closed, closes, reaching, event_for, edu_for, load_for, end_of, addressed, addressed_edus, loads, placed, next_place, numbered, parcels}
 use Rattle.fed_journal.specs.Loads.{is_end}
 use Rattle.fed_journal.specs.Offered.{entry_of, load_of}
 use Rattle.fed_journal.specs.Offering.{open_among, AreLost}
 use Rattle.fed_journal.specs.Queues.{parcel_after, parcel_to, placed_beyond}
-use Rattle.fed_journal.proofs.Entries.{is_closed-more, is_closed-one, addressed-more, addressed-one, addressed_edus-more, addressed_edus-one, loads-more, loads-one}
+use Rattle.fed_journal.proofs.Entries.{is_closed-more, is_closed-one, addressed-more, addressed-one, addressed_edus-more, addressed_edus-one, loads-more, loads-one, none_reaches}
 
 numbered-append : (d n : ℕ) (xs ys : List Load) → numbered d n (xs ++ ys) ≡ numbered d n xs ++ numbered d (n + length xs) ys
 numbered-append d n [] ys = ap (λ m. numbered d m ys) (omega arith)
@@ -178,23 +178,28 @@ closing_last true Asked = only_last load.End
 closing_last true Lost = none_last
 closing_last false cause = none_last
 
+last_from : (d : ℕ) (was_open : Bool) (xs : List Entry) → EndsLast (filter_map (load_for d) (reaching d was_open xs))
+last_from d was_open [] = none_last
+last_from d false (x ∷ xs) = last_from d false xs
+last_from d true (Event event dests ∷ xs) = by (is_among dests d) (last_from d true xs)
+  where
+    by : (b : Bool) → EndsLast (filter_map (load_for d) (reaching d true xs)) → EndsLast (cons_option (if b then Some (load.Event event) else None) (filter_map (load_for d) (reaching d true xs)))
+    by true rest = one_more_last (load.Event event) _ refl rest
+    by false rest = rest
+last_from d true (Edu edu dests ∷ xs) = by (is_among dests d) (last_from d true xs)
+  where
+    by : (b : Bool) → EndsLast (filter_map (load_for d) (reaching d true xs)) → EndsLast (cons_option (if b then Some (load.Edu edu) else None) (filter_map (load_for d) (reaching d true xs)))
+    by true rest = one_more_last (load.Edu edu) _ refl rest
+    by false rest = rest
+last_from d true (Close dest cause ∷ xs) = by (dest == d) (last_from d true xs)
+  where
+    by : (b : Bool) → EndsLast (filter_map (load_for d) (reaching d true xs))
+        → EndsLast (cons_option (if b then end_of cause else None) (filter_map (load_for d) (reaching d (not b) xs)))
+    by true rest = subst (λ es. EndsLast (cons_option (end_of cause) (filter_map (load_for d) es))) (sym (none_reaches d xs)) (closing_last true cause)
+    by false rest = rest
+
 pub loads_end_last : (entries : List Entry) (d : ℕ) → EndsLast (loads entries d)
-loads_end_last [] d = none_last
-loads_end_last (Event event dests ∷ entries) d = by (is_among dests d) (loads_end_last entries d)
-  where
-    by : (b : Bool) → EndsLast (loads entries d) → EndsLast (cons_option (if b then Some (load.Event event) else None) (loads entries d))
-    by true rest = one_more_last (load.Event event) (loads entries d) refl rest
-    by false rest = rest
-loads_end_last (Edu edu dests ∷ entries) d = by (is_among dests d) (loads_end_last entries d)
-  where
-    by : (b : Bool) → EndsLast (loads entries d) → EndsLast (cons_option (if b then Some (load.Edu edu) else None) (loads entries d))
-    by true rest = one_more_last (load.Edu edu) (loads entries d) refl rest
-    by false rest = rest
-loads_end_last (Close dest cause ∷ entries) d = by (dest == d) refl (loads_end_last entries d)
-  where
-    by : (b : Bool) → (dest == d) ≡ b → EndsLast (loads entries d) → EndsLast (filter_map (load_for d) (if b then Close dest cause ∷ [] else Close dest cause ∷ through_close d entries))
-    by true is rest = closing_last (dest == d) cause
-    by false is rest = subst (λ b. EndsLast (cons_option (if b then end_of cause else None) (loads entries d))) (sym is) rest
+loads_end_last entries d = last_from d true entries
 
 abbrev load_in : Parcel → Load
 load_in parcel = parcel.load

@@ -1,6 +1,6 @@
 -- The journal of a server: the events and ephemeral data units that it has offered, each with its destinations, and the closings of
 -- outboxes, in order. What is addressed to a destination, and which parcels were placed for it, are read from that list.
-use Rattle.std.specs.Prelude.{ℕ, ◌+◌, ◌-◌, max, Bool, false, not, ◌==◌, if◌then◌else◌, List, [], ◌∷◌, ◌++◌, length, take_while, Option, Some, None, refl}
+use Rattle.std.specs.Prelude.{ℕ, ◌+◌, ◌-◌, max, Bool, true, false, not, ◌&&◌, ◌==◌, if◌then◌else◌, List, [], ◌∷◌, ◌++◌, length, Option, Some, None, refl}
 use Rattle.std.specs.List.{list_any, filter_map}
 use Rattle.std.specs.Coded.{Coded, code_by, coded×, coded_ℕ, coded_list}
 use Rattle.serde_json.specs.Data.{Data}
@@ -30,8 +30,23 @@ closes d (Event event dests) = false
 closes d (Edu edu dests) = false
 closes d (Close dest cause) = dest == d
 
+-- whether the outbox of d is open after one more entry: an entry that closes it is the only one that makes a difference
+abbrev pub open_after : ℕ → Bool → Entry → Bool
+open_after d was_open entry = was_open && not (closes d entry)
+
+-- whether it is after these entries
+abbrev pub is_open : ℕ → Bool → List Entry → Bool
+is_open d was_open [] = was_open
+is_open d was_open (entry ∷ entries) = is_open d (open_after d was_open entry) entries
+
+-- it is open at first
 abbrev pub is_closed : List Entry → ℕ → Bool
-is_closed entries d = list_any (closes d) entries
+is_closed entries d = not (is_open d true entries)
+
+-- those of the entries that find it open
+abbrev pub reaching : ℕ → Bool → List Entry → List Entry
+reaching d was_open [] = []
+reaching d was_open (entry ∷ entries) = if was_open then entry ∷ reaching d (open_after d was_open entry) entries else reaching d (open_after d was_open entry) entries
 
 -- the entry closes the outbox of d because nothing takes its parcels any more
 abbrev pub loses : ℕ → Entry → Bool
@@ -42,10 +57,6 @@ loses d (Close dest Lost) = dest == d
 
 abbrev pub is_lost : List Entry → ℕ → Bool
 is_lost entries d = list_any (loses d) entries
-
--- the entries before the first that closes the outbox of d
-abbrev pub before_close : ℕ → List Entry → List Entry
-before_close d entries = take_while (λ entry. not (closes d entry)) entries
 
 -- the event, and the EDU, that an entry addresses to d
 abbrev pub event_for : ℕ → Entry → Option CheckedEvent
@@ -60,10 +71,10 @@ edu_for d (Close dest cause) = None
 
 -- the events, and the EDUs, addressed to d, in order
 abbrev pub addressed : List Entry → ℕ → List CheckedEvent
-addressed entries d = filter_map (event_for d) (before_close d entries)
+addressed entries d = filter_map (event_for d) (reaching d true entries)
 
 abbrev pub addressed_edus : List Entry → ℕ → List Data
-addressed_edus entries d = filter_map (edu_for d) (before_close d entries)
+addressed_edus entries d = filter_map (edu_for d) (reaching d true entries)
 
 -- all events, and all EDUs, of a journal
 abbrev pub event_in : Entry → Option CheckedEvent
@@ -92,14 +103,9 @@ load_for d (Event event dests) = if is_among dests d then Some (load.Event event
 load_for d (Edu edu dests) = if is_among dests d then Some (load.Edu edu) else None
 load_for d (Close dest cause) = if dest == d then end_of cause else None
 
--- the entries up to and with the first that closes the outbox of d
-abbrev pub through_close : ℕ → List Entry → List Entry
-through_close d [] = []
-through_close d (entry ∷ entries) = if closes d entry then entry ∷ [] else entry ∷ through_close d entries
-
 -- what was ever placed for d, in order, and how much that is
 abbrev pub loads : List Entry → ℕ → List Load
-loads entries d = filter_map (load_for d) (through_close d entries)
+loads entries d = filter_map (load_for d) (reaching d true entries)
 
 abbrev pub placed : List Entry → ℕ → ℕ
 placed entries d = length (loads entries d)

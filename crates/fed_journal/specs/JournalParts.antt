@@ -1,15 +1,15 @@
 -- The journal that the fields of a `Journal` stand for, and how they hold together.
-use Rattle.std.specs.Prelude.{◌≡◌, ℕ, ◌+◌, ◌≤◌, ◌^◌, List, Some, length, slice_get, vec_len, vec_capacity}
+use Rattle.std.specs.Prelude.{◌≡◌, ℕ, ◌+◌, ◌≤◌, ◌^◌, List, true, Some, length, slice_get, vec_len, vec_capacity}
 use Rattle.fed_journal.specs.declared.entry.Entry.{Entry}
 use Rattle.fed_journal.specs.declared.journal.Journal.TheInside.{Inside}
-use Rattle.fed_journal.specs.Journal.{JournalState, is_closed, before_close, event_for, edu_for, placed, events_of, edus_of}
+use Rattle.fed_journal.specs.Journal.{JournalState, is_closed, reaching, event_for, edu_for, placed, events_of, edus_of}
 use Rattle.fed_journal.specs.Lane.{LaneState}
 use Rattle.fed_journal.specs.Standing.{places_from}
 
 -- the lane of d, with room for so many more
 pub record IsLane (entries : List Entry) (reserved d : ℕ) (lane : LaneState) : Type 0 where
-  pub events : lane.events ≡ places_from (event_for d) 0 (before_close d entries)
-  pub edus : lane.edus ≡ places_from (edu_for d) 0 (before_close d entries)
+  pub events : lane.events ≡ places_from (event_for d) 0 (reaching d true entries)
+  pub edus : lane.edus ≡ places_from (edu_for d) 0 (reaching d true entries)
   pub placed : lane.placed ≡ placed entries d
   pub closed : lane.closed ≡ is_closed entries d
   pub room : reserved ≤ lane.room

@@ -1,5 +1,5 @@
 -- What the steps on the way from one server to another leave of what was so.
-use Rattle.std.proofs.Common.{◌≡◌, ℕ, ◌≤◌, ◌==◌, Bool, true, false, cond, if◌then◌else◌, List, [], ◌∷◌, ◌++◌, length, take, All, Option, Some, None, refl, sym, ap, subst, ◌∙◌, ◌⊎◌, inl, inr, arith}
+use Rattle.std.proofs.Common.{◌≡◌, ℕ, ◌≤◌, ◌==◌, Bool, true, false, not, cond, if◌then◌else◌, List, [], ◌∷◌, ◌++◌, length, take, All, Option, Some, None, refl, sym, ap, subst, ◌∙◌, ◌⊎◌, inl, inr, arith}
 use Rattle.std.specs.Prelude.{filter}
 use Rattle.std.specs.List.{filter_map, cons_option}
 use Rattle.std.proofs.lemmas.Bool.{cases_Bool, eqb-true}
@@ -7,8 +7,7 @@ use Rattle.std.proofs.lemmas.List.Elements.{All-nil, All-cons, All-head, All-tai
 use Rattle.std.proofs.lemmas.List.{length-take}
 use Rattle.fed_dest.specs.ServerSet.{is_among}
 use Rattle.fed_journal.specs.declared.entry.Entry.TheVariants as entry
-use Rattle.fed_journal.specs.Journal.{closes, before_close, edu_for}
-use Rattle.fed_journal.proofs.Entries.{before-cons}
+use Rattle.fed_journal.specs.Journal.{reaching, edu_for}
 use Rattle.fed_outbox.specs.Outbox.{unanswered_pdus, unanswered_edus}
 use Rattle.serde_json.specs.Data.{Data, depth}
 use Rattle.fed_json.specs.CanonicalText.{canonical_text}
@@ -136,24 +135,26 @@ all_left P [] ys h = All-nil P
 all_left P (x ∷ xs) ys h = All-cons P x xs (All-head P x (xs ++ ys) h) (all_left P xs ys (All-tail P x (xs ++ ys) h))
 
 -- what is addressed to one destination is among all that was offered
-addressed_sound : (P : Data → Type 0) (d : ℕ) (entries : List Entry) → All P (edus_of entries) → All P (addressed_edus entries d)
-addressed_sound P d [] h = All-nil P
-addressed_sound P d (x ∷ entries) h =
-    subst (λ l. All P (filter_map (edu_for d) l)) (sym (before-cons d x entries)) (one_more x h (addressed_sound P d entries))
+sound_from : (P : Data → Type 0) (d : ℕ) (was_open : Bool) (entries : List Entry) → All P (edus_of entries) → All P (filter_map (edu_for d) (reaching d was_open entries))
+sound_from P d was_open [] h = All-nil P
+sound_from P d false (x ∷ entries) h = sound_from P d false entries (rest_of x h)
   where
-    one_more : (y : Entry) → All P (edus_of (y ∷ entries)) → (All P (edus_of entries) → All P (addressed_edus entries d))
-        → All P (filter_map (edu_for d) (if closes d y then [] else y ∷ before_close d entries))
-    one_more (entry.Event event dests) all rest = rest all
-    one_more (entry.Edu edu dests) all rest = by (is_among dests d) (All-head P edu (edus_of entries) all) (rest (All-tail P edu (edus_of entries) all))
-      where
-        by : (b : Bool) → P edu → All P (addressed_edus entries d) → All P (cons_option (if b then Some edu else None) (addressed_edus entries d))
-        by true first later = All-cons P edu (addressed_edus entries d) first later
-        by false first later = later
-    one_more (entry.Close dest cause) all rest = by (dest == d) (rest all)
-      where
-        by : (b : Bool) → All P (addressed_edus entries d) → All P (filter_map (edu_for d) (if b then [] else entry.Close dest cause ∷ before_close d entries))
-        by true later = All-nil P
-        by false later = later
+    rest_of : (y : Entry) → All P (edus_of (y ∷ entries)) → All P (edus_of entries)
+    rest_of (entry.Event event dests) all = all
+    rest_of (entry.Edu edu dests) all = All-tail P edu (edus_of entries) all
+    rest_of (entry.Close dest cause) all = all
+sound_from P d true (entry.Event event dests ∷ entries) h = sound_from P d true entries h
+sound_from P d true (entry.Edu edu dests ∷ entries) h =
+    by (is_among dests d) (All-head P edu (edus_of entries) h) (sound_from P d true entries (All-tail P edu (edus_of entries) h))
+  where
+    by : (b : Bool) → P edu → All P (filter_map (edu_for d) (reaching d true entries))
+        → All P (cons_option (if b then Some edu else None) (filter_map (edu_for d) (reaching d true entries)))
+    by true first later = All-cons P edu (filter_map (edu_for d) (reaching d true entries)) first later
+    by false first later = later
+sound_from P d true (entry.Close dest cause ∷ entries) h = sound_from P d (not (dest == d)) entries h
+
+addressed_sound : (P : Data → Type 0) (d : ℕ) (entries : List Entry) → All P (edus_of entries) → All P (addressed_edus entries d)
+addressed_sound P d entries h = sound_from P d true entries h
 
 all_edus : (edus : List Data) → All IsSoundEdu edus → filter is_edu edus ≡ edus
 all_edus [] h = refl
