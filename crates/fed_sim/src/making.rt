@@ -11,7 +11,7 @@ ghost use Rattle.fed_sim.specs.World.{AtServer, AtServerInPart, dated, ticked};
 
 use crate::outcome::Outcome;
 use crate::packet::Packet;
-use crate::rounds::calm_rounds;
+use crate::rounds::calm;
 use crate::step::Step;
 use crate::world::{MAX_MOMENT, World};
 use fed_dest::{ServerIndex, ServerSet};
@@ -53,7 +53,7 @@ impl World {
             Step::Tick { ms } => Ok(self.tick(*ms)),
             Step::Show { server, origin } => Ok(self.shown(*server, *origin)),
             Step::Calm { rounds } => {
-                calm_rounds(self, alloc, *rounds)?;
+                calm(alloc, self, *rounds)?;
                 Ok(Outcome::Calm { at_ms: self.now })
             }
         }

@@ -22,14 +22,6 @@ pub fn calm(alloc: Global, world: &mut World, rounds: u64) -> Result<(), NoMemor
     ensures ok { OnOk result (Reached (world_of world.old) (world_of world.new)) }
     ensures err { OnErr result (ReachedInPart (world_of world.old) (world_of world.new)) }
 {
-    calm_rounds(world, alloc, rounds)
-}
-
-// The same.
-pub(crate) fn calm_rounds(world: &mut World, alloc: Global, rounds: u64) -> Result<(), NoMemory>
-    ensures ok { OnOk result (Reached (world_of world.old) (world_of world.new)) }
-    ensures err { OnErr result (ReachedInPart (world_of world.old) (world_of world.new)) }
-{
     for _ in 0..rounds {
         if !calm_round(world, alloc)? {
             return Ok(());

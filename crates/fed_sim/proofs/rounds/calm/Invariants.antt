@@ -1,6 +1,6 @@
 use Rattle.fed_sim.specs.Steps.{Reached}
 use Rattle.fed_sim.specs.WorldParts.{world_of}
-use Rattle.fed_sim.proofs.rounds.calm_rounds.Given as goal
+use Rattle.fed_sim.proofs.rounds.calm.Given as goal
 
 -- the steps so far
 abbrev pub invariant-loop : goal.invariant-loop

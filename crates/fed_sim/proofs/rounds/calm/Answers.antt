@@ -1,7 +1,7 @@
 use Rattle.fed_sim.specs.Steps.{no_step}
 use Rattle.fed_sim.proofs.Servers.{on_error}
 use Rattle.fed_sim.proofs.Reaching.{reached_then, in_part_then}
-use Rattle.fed_sim.proofs.rounds.calm_rounds.Goals as goal
+use Rattle.fed_sim.proofs.rounds.calm.Goals as goal
 
 pub loop-init : goal.loop-init
 loop-init c = no_step
