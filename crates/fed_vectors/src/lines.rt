@@ -1,13 +1,13 @@
 // From the line of a call to the line of its answer.
 
-use crate::answer::{Answer, Stop};
-use crate::arguments::Arguments;
-use crate::made::Object;
-use crate::{
-    events, graphs, inboxes, journals, outboxes, requests, resolution, rooms, scripts, servers,
-    signatures, streams, table_rooms, transactions, values,
-};
 use fed_json::{Json, MAX_LEVELS, canonical, read_within};
+use fed_vectors_call::{Answer, Arguments, Object, Stop};
+use fed_vectors_events::{events, signatures, values};
+use fed_vectors_rooms::{rooms, table_rooms};
+use fed_vectors_rules::{authorization, resolution};
+use fed_vectors_sending::{journals, outboxes, servers, transactions};
+use fed_vectors_wire::{requests, streams};
+use fed_vectors_worlds::{inboxes, printed};
 use std::alloc::Global;
 
 /// The line, without its end, that answers the call of a line.
@@ -67,10 +67,10 @@ fn answer_later_call(name: &str, call: Arguments<'_>) -> Answer {
         "transaction" => transactions::transaction(call),
         "reply" => transactions::reply(call),
         "inbox" => inboxes::inbox(call),
-        "run" => inboxes::run(call),
-        "allowed" => graphs::allowed(call),
-        "auth_state" => graphs::auth_state(call),
-        "selection" => graphs::selection(call),
+        "run" => printed::run(call),
+        "allowed" => authorization::allowed(call),
+        "auth_state" => authorization::auth_state(call),
+        "selection" => authorization::selection(call),
         "started" => rooms::started(call),
         "room" => rooms::room(call),
         "waiting" => rooms::waiting(call),
@@ -102,7 +102,7 @@ fn answer_message_call(name: &str, call: Arguments<'_>) -> Answer {
         "write_request" => requests::written_request(call),
         "write_reply" => requests::written_reply(call),
         "resolution" => resolution::resolution(call),
-        "script" => scripts::script(call),
+        "script" => printed::script(call),
         _ => Err(Stop::wrong(String::from_str(call.alloc, "unknown call"))),
     }
 }

@@ -1,39 +1,10 @@
 //! The program `fed_vectors`: calls of the library, a JSON object a line in, and their answers, a line a line out. docs/VECTORS.md says
 //! which calls there are. It has no logic of its own: it reads arguments, makes the call and prints what the call gives.
 //!
-//! - `lines`: from the line of a call to the line of its answer
-//! - `values`, `events`, `signatures`, `transactions`, `inboxes`, `graphs`, `resolution`, `rooms`, `table_rooms`, `servers`, `journals`,
-//!   `outboxes`: the calls, floor by floor
-//! - `room_steps`: the operations on a room
-//! - `scripts`: scripts of a world
-//! - `offers`: the events and the EDUs that a call gives
-//! - `arguments`, `key_ring`: what a call is given
-//! - `verdicts`, `made`, `answer`: what a call gives
+//! - `lines`: from the line of a call to the line of its answer, and which call a name names
 #![tactic(auto)]
 
-mod answer;
-mod arguments;
-mod events;
-mod graphs;
-mod inboxes;
-mod journals;
-mod key_ring;
 mod lines;
-mod made;
-mod offers;
-mod outboxes;
-mod requests;
-mod resolution;
-mod room_steps;
-mod rooms;
-mod scripts;
-mod servers;
-mod signatures;
-mod streams;
-mod table_rooms;
-mod transactions;
-mod values;
-mod verdicts;
 
 use lines::answer_line;
 use std::alloc::Global;
