@@ -103,7 +103,7 @@ Usage: fed inbox [OPTIONS]
 
 Options:
       --name <N>       The name of the server whose inbox it is [default: b.example]
-      --servers <A,B>  The other servers, which it takes transactions from [default: a.example]
+      --servers <A,B>  The other servers, which it takes transactions from, each once however often it is named [default: a.example]
       --room <R>       The room that it knows [default: !r:a.example]
   -h, --help           Print help
 
@@ -291,12 +291,17 @@ def cases():
         (["inbox", "--servers", "c.example"], empty("b.example", "a.example"), NOT_LISTED + NOT_LISTED, "", 0),
         (["inbox", "--servers", "b.example"], empty("b.example", "a.example"), NOT_LISTED + NOT_LISTED, "", 0),
         (["inbox", "--name", "a.example"], empty("a.example"), NOT_LISTED, "", 0),
-        (["inbox", "--servers", "a.example,a.example"], sample, "", BAD_SERVERS, 2),
+        (["inbox", "--servers", "a.example,a.example"], sample, answers, "", 0),
+        (["inbox", "--servers", "a.example,c.example,a.example"], sample, answers, "", 0),
+        (["inbox", "--servers", "b.example,a.example,b.example"], sample, answers, "", 0),
+        (["inbox", "--servers", "a.example,a_b,a.example"], sample, "", BAD_SERVERS, 2),
         (["inbox", "--servers", "a.example,"], sample, "", BAD_SERVERS, 2),
         (["inbox", "--servers", "a_b"], sample, "", BAD_SERVERS, 2),
         (["inbox", "--name", "b:"], sample, "", BAD_SERVERS, 2),
         (["inbox", "--servers", named(64)], sample, "", BAD_SERVERS, 2),
         (["inbox", "--servers", named(63)], empty("s63", "s64"), TAKEN + NOT_LISTED, "", 0),
+        (["inbox", "--servers", f"{named(63)},b.example,{named(63)}"], empty("s63", "s64"), TAKEN + NOT_LISTED, "", 0),
+        (["inbox", "--servers", f"{named(63)},{named(64)}"], sample, "", BAD_SERVERS, 2),
         (others, empty("a.example", "b.example", "c.example", "d.example"), NOT_LISTED + TAKEN + NOT_LISTED + TAKEN, "", 0),
         ([], empty("x.example") * 100_000, NOT_LISTED * 100_000, "", 0),
         (["inbox"], rooms, with_r, "", 0),

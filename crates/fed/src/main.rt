@@ -206,7 +206,9 @@ fn command<'a>(alloc: Global) -> Result<Command<'a>, AllocError> {
         .long("servers")
         .value_name("A,B")
         .default_value(SERVERS)
-        .help("The other servers, which it takes transactions from");
+        .help(
+            "The other servers, which it takes transactions from, each once however often it is named",
+        );
     let room = Arg::new(alloc, "room")
         .long("room")
         .value_name("R")

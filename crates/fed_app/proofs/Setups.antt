@@ -1,11 +1,16 @@
 -- Texts that make a list of servers, or none.
-use Rattle.std.proofs.Common.{◌≡◌, ◌⊎◌, inl, inr, ℕ, zero, suc, true, false, ◌||◌, cond, List, [], ◌∷◌, ◌++◌, map, All, bytes_eq, subst, get_or, Option, Some, None, IfSome, Result, Ok, Err, IsErrOf, refl}
-use Rattle.std.specs.Prelude.{IsErrAnd}
+use Rattle.std.proofs.Common.{◌≡◌, ◌∙◌, ap, ◌==◌, ◌+◌, ◌<◌, ◌≤◌, ◌⊎◌, inl, inr, ℕ, zero, suc, Bool, true, false, ◌||◌, cond, List, [], ◌∷◌, ◌++◌, length, length-append, map, bytes_eq, nat_lt, subst, sym, get_or, take, Option, Some, None, IfSome, IfNone, Result, Ok, Err, IsErrOf, refl, arith}
+use Rattle.std.specs.Prelude.{IsErrAnd, fold}
 use Rattle.std.specs.List.{list_any}
+use Rattle.std.proofs.Math.Nat.{le_refl}
 use Rattle.std.proofs.lemmas.Bool.{cases_Bool}
-use Rattle.std.proofs.lemmas.Slice.Eq.{bytes_eq-Decides}
-use Rattle.std.proofs.lemmas.List.Elements.{All-nil, All-cons, All-head, All-tail, All-push}
-use Rattle.fed_app.specs.Servers.{with_own}
+use Rattle.std.proofs.lemmas.Bool.Decides.{nat_tests}
+use Rattle.std.proofs.lemmas.List.{take_more, map-append}
+use Rattle.std.proofs.lemmas.List.Sums.{fold-append}
+use Rattle.std.proofs.lemmas.List.Folds.{list_any-append}
+use Rattle.fed_dest.specs.List.{has_doubled, list_fault}
+use Rattle.fed_dest.specs.declared.list.ListFault.TheVariants.{Empty, TooMany, Doubled}
+use Rattle.fed_app.specs.Servers.{with_name, each_once}
 use Rattle.fed_dest.specs.declared.server_name.NameFault.{NameFault}
 use Rattle.fed_dest.specs.declared.server_name.NameFault.TheVariants as name
 use Rattle.fed_app.specs.declared.setup.SetupFault.{SetupFault}
@@ -33,40 +38,69 @@ pub same_fault : {T : Type 0} (fault : SetupFault) (r : Result T SetupFault) →
 same_fault fault (Ok v) is bad = absurd is
 same_fault fault (Err e) is bad = cc
 
--- ---- the own name among the others
+-- ---- names, each once
 
-module _ (P : List ℕ → Type 0) (own : List ℕ) where
-  found : (names : List (List ℕ)) → list_any (λ name. bytes_eq name own) names ≡ true → All P names → P own
-  found [] h all = absurd (cc)
-  found (name ∷ names) h all = by (found names) (cases_Bool (bytes_eq name own))
-    where
-      by : (list_any (λ n. bytes_eq n own) names ≡ true → All P names → P own) → (bytes_eq name own ≡ true) ⊎ (bytes_eq name own ≡ false) → P own
-      by later (inl t) = subst P ((bytes_eq-Decides name own).0 t) (All-head P name names all)
-      by later (inr f) = later (subst (λ b. (b || list_any (λ n. bytes_eq n own) names) ≡ true) f h) (All-tail P name names all)
+or_false : (a b : Bool) → (a || b) ≡ false → (a ≡ false) × (b ≡ false)
+or_false true b h = absurd (cc)
+or_false false b h = (refl, h)
 
-  last : (names : List (List ℕ)) → All P (names ++ own ∷ []) → P own
-  last [] all = All-head P own [] all
-  last (name ∷ names) all = last names (All-tail P name (names ++ own ∷ []) all)
+-- a name behind others among which it is not
+doubled_last : (names : List (List ℕ)) (name : List ℕ) → has_doubled names ≡ false
+    → list_any (λ other. bytes_eq other name) names ≡ false → has_doubled (names ++ name ∷ []) ≡ false
+doubled_last [] name single other = refl
+doubled_last (n ∷ names) name single other =
+    let one = or_false (list_any (bytes_eq n) names) (has_doubled names) single in
+    let two = or_false (bytes_eq n name) (list_any (λ o. bytes_eq o name) names) other in
+    let rest = doubled_last names name one.1 two.1 in
+    let here = list_any-append (bytes_eq n) names (name ∷ []) in
+    rw (here, one.0, two.0, rest) refl
 
-  all_but_last : (names : List (List ℕ)) → All P (names ++ own ∷ []) → All P names
-  all_but_last [] all = All-nil P
-  all_but_last (name ∷ names) all = All-cons P name names (All-head P name (names ++ own ∷ []) all) (all_but_last names (All-tail P name (names ++ own ∷ []) all))
+with_name_single : (names : List (List ℕ)) (name : List ℕ) → has_doubled names ≡ false → has_doubled (with_name names name) ≡ false
+with_name_single names name single = by (cases_Bool (list_any (λ other. bytes_eq other name) names))
+  where
+    by : (list_any (λ other. bytes_eq other name) names ≡ true) ⊎ (list_any (λ other. bytes_eq other name) names ≡ false)
+        → has_doubled (with_name names name) ≡ false
+    by (inl t) = subst (λ b. has_doubled (cond b names (names ++ name ∷ [])) ≡ false) (sym t) single
+    by (inr f) = subst (λ b. has_doubled (cond b names (names ++ name ∷ [])) ≡ false) (sym f) (doubled_last names name single f)
 
-  pub own_of : (names : List (List ℕ)) → All P (with_own own names) → P own
-  own_of names all = by (cases_Bool (list_any (λ name. bytes_eq name own) names))
-    where
-      by : (list_any (λ name. bytes_eq name own) names ≡ true) ⊎ (list_any (λ name. bytes_eq name own) names ≡ false) → P own
-      by (inl t) = found names t (subst (λ b. All P (cond b names (names ++ own ∷ []))) t all)
-      by (inr f) = last names (subst (λ b. All P (cond b names (names ++ own ∷ []))) f all)
+all_single : (names more : List (List ℕ)) → has_doubled names ≡ false → has_doubled (fold with_name names more) ≡ false
+all_single names [] single = single
+all_single names (name ∷ more) single = all_single (with_name names name) more (with_name_single names name single)
 
-  pub others_of : (names : List (List ℕ)) → All P (with_own own names) → All P names
-  others_of names all = by (cases_Bool (list_any (λ name. bytes_eq name own) names))
-    where
-      by : (list_any (λ name. bytes_eq name own) names ≡ true) ⊎ (list_any (λ name. bytes_eq name own) names ≡ false) → All P names
-      by (inl t) = subst (λ b. All P (cond b names (names ++ own ∷ []))) t all
-      by (inr f) = all_but_last names (subst (λ b. All P (cond b names (names ++ own ∷ []))) f all)
+with_name_more : (names : List (List ℕ)) (name : List ℕ) → length names ≤ length (with_name names name)
+with_name_more names name =
+    elim (list_any (λ other. bytes_eq other name) names) as (λ b. length names ≤ length (cond b names (names ++ name ∷ [])))
+    [ true ↦ le_refl (length names) | false ↦ rw (length-append names (name ∷ [])) (omega arith) ]
 
-  pub with_own_all : (names : List (List ℕ)) → P own → All P names → All P (with_own own names)
-  with_own_all names mine all =
-      elim (list_any (λ name. bytes_eq name own) names) as (λ b. All P (cond b names (names ++ own ∷ [])))
-      [ true ↦ all | false ↦ All-push P names own all mine ]
+all_more : (names more : List (List ℕ)) → length names ≤ length (fold with_name names more)
+all_more names [] = le_refl (length names)
+all_more names (name ∷ more) = omega (arith, with_name_more names name, all_more (with_name names name) more)
+
+pub once_more : {X : Type 0} (g : X → List ℕ) (names : List (List ℕ)) (xs : List X) (i : ℕ) (d : X) → i < length xs
+    → fold with_name names (map g (take (i + 1) xs)) ≡ with_name (fold with_name names (map g (take i xs))) (g (get_or xs i d))
+once_more g names xs i d h =
+    ap (λ ys. fold with_name names (map g ys)) (take_more xs i d h)
+    ∙ ap (fold with_name names) (map-append g (take i xs) (get_or xs i d ∷ []))
+    ∙ fold-append with_name names (map g (take i xs)) (g (get_or xs i d) ∷ [])
+
+-- why names that stand each once make no list: there are none, or too many
+no_fault : (n : ℕ) → 0 < n → n ≤ 64 → cond (n == 0) (Some Empty) (cond (nat_lt 64 n) (Some TooMany) None) ≡ None
+no_fault n some most = grind (arith, nat_tests)
+
+few : (n : ℕ) (d : Bool) → cond (n == 0) (Some Empty) (cond (nat_lt 64 n) (Some TooMany) (cond d (Some Doubled) None)) ≡ None → n ≤ 64
+few n d h = grind (arith, nat_tests)
+
+pub listed_once : (own : List ℕ) (names : List (List ℕ)) → length (each_once own names) ≤ 64 → list_fault (each_once own names) ≡ None
+listed_once own names most =
+    let single = all_single (own ∷ []) names refl in
+    let some = all_more (own ∷ []) names in
+    subst (λ d. cond (length (each_once own names) == 0) (Some Empty) (cond (nat_lt 64 (length (each_once own names))) (Some TooMany) (cond d (Some Doubled) None)) ≡ None)
+    (sym single) (no_fault (length (each_once own names)) (omega (arith, some)) most)
+
+pub most_listed : (names : List (List ℕ)) → list_fault names ≡ None → length names ≤ 64
+most_listed names fine = few (length names) (has_doubled names) fine
+
+-- what is said of no fault holds where there is none
+pub when_none : {E : Type 0} (o : Option E) (P : Type 0) → IfNone o P → o ≡ None → P
+when_none None P holds is = holds
+when_none (Some fault) P holds is = absurd (cc)

@@ -3,7 +3,7 @@ ghost use Rattle.std.specs.Prelude.{◌≡◌, All, Err, map, string_bytes, byte
 ghost use Rattle.std.specs.List.{list_any};
 ghost use Rattle.std.specs.List.Sorted.{IsPermutation};
 ghost use Rattle.fed_dest.specs.ServerName.{IsServerName};
-ghost use Rattle.fed_app.specs.Servers.{AreServers, with_own};
+ghost use Rattle.fed_app.specs.Servers.{AreServers, each_once, with_name};
 ghost use Rattle.fed_app.specs.declared.setup.SetupFault.TheVariants.{Memory, BadServers};
 
 use fed_dest::{List, ListFault, NameFault, ServerName};
@@ -28,7 +28,7 @@ pub enum SetupFault {
     /// Memory ran out.
     #[error("out of memory")]
     Memory,
-    /// A text is no server name, a server is named twice, or there are more than 64.
+    /// A text is no server name, or more than 64 different servers are named.
     #[error("bad servers")]
     BadServers,
 }
@@ -71,12 +71,13 @@ impl From<ListFault> for SetupFault {
 }
 
 impl InboxSetup {
-    /// The setup of the server `own`, whose list is made of `servers` and itself, where it is not among them.
+    /// The setup of the server `own`, whose list is made of itself and `servers`, each once: a name that is given twice counts once, and so
+    /// does the own one where it is among `servers`.
     ///
     /// # Errors
     ///
-    /// `BadServers` where one of these texts is no server name, one stands there twice, or they are more than 64; that the own name is
-    /// none is told without memory. `Memory` where memory ran out.
+    /// `BadServers` where one of these texts is no server name, or they name more than 64 different servers; that the own name is none is
+    /// told without memory. `Memory` where memory ran out.
     pub fn read(
         alloc: Global,
         own: &str,
@@ -84,15 +85,15 @@ impl InboxSetup {
         rooms: Vec<String>,
     ) -> Result<InboxSetup, SetupFault>
         ensures own { IfOk result (λ setup. setup.own ≡ own.now) }
-        ensures servers { IfOk result (λ setup. IsPermutation (with_own own.now (map string_bytes servers.now)) setup.servers) }
+        ensures servers { IfOk result (λ setup. IsPermutation (each_once own.now (map string_bytes servers.now)) setup.servers) }
         ensures rooms { IfOk result (λ setup. setup.rooms.items ≡ rooms.items) }
-        ensures good { OnOk result (AreServers (with_own own.now (map string_bytes servers.now))) }
-        ensures bad { IsErrOf result BadServers → ¬ AreServers (with_own own.now (map string_bytes servers.now)) }
+        ensures good { OnOk result (AreServers own.now (map string_bytes servers.now)) }
+        ensures bad { IsErrOf result BadServers → ¬ AreServers own.now (map string_bytes servers.now) }
         ensures own_refused { ¬ IsServerName own.now → result ≡ Err BadServers }
     {
         let own = ServerName::read(alloc, own)?;
-        let names = names_of(alloc, servers)?;
-        let servers = List::new(and_own(alloc, names, &own)?)?;
+        let names = names_once(alloc, &own, servers)?;
+        let servers = List::new(names)?;
         Ok(InboxSetup {
             own,
             servers,
@@ -101,37 +102,39 @@ impl InboxSetup {
     }
 }
 
-// The names that texts are.
-fn names_of(alloc: Global, servers: &[String]) -> Result<Vec<ServerName>, SetupFault>
-    ensures names { IfOk result (λ names. names.items ≡ map string_bytes servers.now) }
+// The own name and those that texts are, each once.
+fn names_once(
+    alloc: Global,
+    own: &ServerName,
+    servers: &[String],
+) -> Result<Vec<ServerName>, SetupFault>
+    ensures names { IfOk result (λ names. names.items ≡ each_once own.now (map string_bytes servers.now)) }
     ensures good { OnOk result (All IsServerName (map string_bytes servers.now)) }
     ensures bad { IsErrOf result BadServers → ¬ All IsServerName (map string_bytes servers.now) }
 {
     let mut names = Vec::new(alloc);
+    names.push(own.copy(alloc)?)?;
     for server in servers {
-        names.push(ServerName::read(alloc, server)?)?;
+        let name = ServerName::read(alloc, server)?;
+        add(&mut names, name)?;
     }
     Ok(names)
 }
 
-// The names with the own one too, where it is not among them.
-fn and_own(
-    alloc: Global,
-    mut names: Vec<ServerName>,
-    own: &ServerName,
-) -> Result<Vec<ServerName>, NoMemory>
-    ensures { IfOk result (λ all. all.items ≡ with_own own.now names.items) }
+// Adds a name to others, where it is not among them.
+fn add(names: &mut Vec<ServerName>, name: ServerName) -> Result<(), NoMemory>
+    ensures { OnOk result (names.new.items ≡ with_name names.old.items name) }
 {
-    if is_named(&names, own) {
-        return Ok(names);
+    if is_named(names, &name) {
+        return Ok(());
     }
-    names.push(own.copy(alloc)?)?;
-    Ok(names)
+    names.push(name)?;
+    Ok(())
 }
 
 // Whether a name is among these.
-fn is_named(names: &[ServerName], own: &ServerName) -> bool
-    ensures { result ≡ list_any (λ name. bytes_eq name own.now) names.now }
+fn is_named(names: &[ServerName], name: &ServerName) -> bool
+    ensures { result ≡ list_any (λ other. bytes_eq other name.now) names.now }
 {
-    names.iter().any(|name| name.as_str() == own.as_str())
+    names.iter().any(|other| other.as_str() == name.as_str())
 }
