@@ -99,6 +99,7 @@ fn answer_message_call(name: &str, call: Arguments<'_>) -> Answer {
         "stream" => streams::stream(call),
         "x_matrix" => requests::x_matrix(call),
         "request_text" => requests::request_text(call),
+        "sign_request" => requests::sign_request(call),
         "write_request" => requests::written_request(call),
         "write_reply" => requests::written_reply(call),
         "resolution" => resolution::resolution(call),

@@ -1,6 +1,9 @@
 // Calls on the signatures of requests, and on messages as they are written.
 
-use fed_http::{AuthFault, Reply, Request, XMatrix, signed_request, write_reply, write_request};
+use fed_http::{
+    AuthFault, Field, Reply, Request, SignFault, XMatrix, signed_request, write_reply,
+    write_request,
+};
 use fed_vectors_call::{Answer, Arguments, Object, Stop, hex_of, text, text_of_bytes};
 use fed_vectors_events::KeyRing;
 use std::alloc::Global;
@@ -39,6 +42,31 @@ pub fn request_text(call: Arguments<'_>) -> Answer {
         &body,
     )?;
     text_of_bytes(call.alloc, &signed)
+}
+
+/// What the own server says in the Authorization field of a request with these fields Host.
+pub fn sign_request(call: Arguments<'_>) -> Answer {
+    let keys = KeyRing::of(call, call.text("own")?)?;
+    let request = Request::new(
+        call.string("method")?,
+        call.string("target")?,
+        hosts(call)?,
+        call.body()?,
+    );
+    match fed_http::sign_request(call.alloc, &request, &keys) {
+        Ok(header) => said(call.alloc, &header),
+        Err(SignFault::Memory) => Err(Stop::Memory),
+        Err(fault) => Err(Stop::error(format!(in call.alloc; "{fault}"))),
+    }
+}
+
+fn hosts(call: Arguments<'_>) -> Result<Vec<Field>, Stop> {
+    let mut fields = Vec::new(call.alloc);
+    for host in call.strings("hosts")? {
+        let name = String::from_str(call.alloc, "Host")?;
+        fields.push(Field::new(name, Vec::from_slice(call.alloc, host.as_bytes())?))?;
+    }
+    Ok(fields)
 }
 
 /// The bytes of a signed request.
