@@ -1,0 +1,4 @@
+pub mod Counting
+pub mod Relaying
+pub mod Seats
+pub mod Views

@@ -1,0 +1,124 @@
+// A board of counts, and the seats at it.
+ghost use Rattle.std.specs.Prelude.{◌≡◌, ℕ, ◌+◌, ◌<◌, ◌≤◌, length, slice_index, IfOk};
+ghost use Rattle.fed_wires.specs.Board.{word_count};
+ghost use Rattle.fed_wires.specs.BoardRule.{Owns};
+ghost use Rattle.fed_wires.specs.Seat.{IsOwner, AreAt, AreOwners, AreReaders, with_load, with_raise};
+
+use crate::board_rule::{Admit, Counts, Deal, End, Loads, Look, Raises};
+use atomic_table::{Seat as Token, Table};
+use std::alloc::{AllocError, Global};
+use std::marker::Model;
+
+/// Words that many threads read and that only rise, each by its owner. Contracts see its name, and how many readers' seats it has.
+#[derive(Drop)]
+pub struct Board {
+    table: Table<(), Look, usize, Counts, Global>,
+    readers: usize,
+}
+
+impl Model for Board {
+    ghost use Rattle.std.specs.Prelude.{◌≡◌, ◌<◌};
+    ghost use Rattle.fed_wires.specs.Board.{Shown, board_of};
+
+    ghost Value = { Shown };
+
+    ghost view = { λ b. record { id = board_of b.table.shared.table_id; readers = b.readers } };
+
+    ghost invariant = { λ b. (b.table.shared.key ≡ b.table.shared.table_id.words) × (0 < b.table.shared.table_id.words) };
+}
+
+/// What a thread loads and raises words through. It owns a word or none.
+///
+/// Contracts see its board, the words that it owns, the last value that it found in each word, and how often it loaded one.
+#[derive(Drop)]
+pub struct Seat {
+    word: usize,
+    token: Token<(), Look>,
+}
+
+impl Model for Seat {
+    ghost use Rattle.std.specs.Prelude.{◌≡◌, ◌≤◌, [], length};
+    ghost use Rattle.fed_wires.specs.Board.{board_of};
+    ghost use Rattle.fed_wires.specs.Seat.{Seated};
+
+    ghost Value = { Seated };
+
+    ghost view = { λ s. record { board = board_of s.token.table_id; owned = s.token.me.0.owned; seen = s.token.me.0.seen; loads = s.token.me.0.loads } };
+
+    ghost invariant = { λ s. (s.token.me.1 ≡ []) × (s.token.me.0.owned.from ≡ s.word) × (s.token.me.0.owned.until ≤ s.token.table_id.words) × (length s.token.me.0.seen ≡ s.token.table_id.words) };
+}
+
+impl Board {
+    /// A board whose words are 0, with a seat for the owner of each word, in their order, and seats for readers.
+    ///
+    /// # Errors
+    ///
+    /// Where memory runs out.
+    pub fn new(
+        alloc: Global,
+        words: usize,
+        readers: usize,
+    ) -> Result<(Board, Vec<Seat>, Vec<Seat>), AllocError>
+        requires { 0 < words }
+        ensures board { IfOk result (λ r. (word_count r.0.id ≡ words) × (r.0.readers ≡ readers)) }
+        ensures owners { IfOk result (λ r. AreOwners r.0.id r.1.items) }
+        ensures readers { IfOk result (λ r. AreReaders r.0.id readers r.2.items) }
+    {
+        let zeros = Vec::from_elem(alloc, 0u64, words)?;
+        let (table, mut root) = Table::of_words(alloc, zeros.as_slice(), &words)?;
+        let mut owners = Vec::new(alloc);
+        for word in 0..words {
+            let token = table.shared.split_seat::<Deal>(&mut root);
+            owners.push(Seat { word, token })?;
+        }
+        let mut others = Vec::new(alloc);
+        for _ in 0..readers {
+            let token = table.shared.split_seat::<Admit>(&mut root);
+            others.push(Seat { word: 0, token })?;
+        }
+        Ok((Board { table, readers }, owners, others))
+    }
+
+    /// What the word is, by one load. It waits for nobody.
+    pub fn load(&self, seat: &mut Seat, word: usize) -> u64
+        requires board { seat.old.board ≡ self.now.id }
+        requires word { word < word_count self.now.id }
+        ensures seat { seat.new ≡ with_load seat.old word result }
+        ensures later { slice_index seat.old.seen word ≤ result }
+        ensures seen { slice_index seat.new.seen word ≡ result }
+        ensures own { Owns seat.old.owned word → result ≡ seat.old.owned.count }
+    {
+        self.table.shared.load::<Loads>(&mut seat.token, word)
+    }
+
+    /// Raises the word that the seat owns to `count`, by one step. A word that is more stays as it is.
+    pub fn raise(&self, seat: &mut Seat, count: u64)
+        requires board { seat.old.board ≡ self.now.id }
+        requires owner { IsOwner seat.old }
+        ensures { seat.new ≡ with_raise seat.old count }
+    {
+        let word = seat.word;
+        self.table
+            .shared
+            .fetch_max::<Raises>(&mut seat.token, word, count);
+    }
+
+    /// Ends the board, and all seats at it with it.
+    pub fn finish(self, mut seats: Vec<Seat>)
+        requires board { AreAt self.id seats.items }
+        requires all { length seats.items ≡ word_count self.id + self.readers }
+    {
+        let Board { table, readers: _ } = self;
+        let Some(first) = seats.pop() else {
+            return;
+        };
+        let Seat {
+            word: _,
+            token: mut root,
+        } = first;
+        while let Some(seat) = seats.pop() {
+            let Seat { word: _, token } = seat;
+            table.shared.join_seat::<End>(&mut root, token);
+        }
+    }
+}

@@ -1,0 +1,22 @@
+//! Wires, over which one thread hands messages to another, and a board of counts that many threads read.
+//!
+//! - `ends`: `wire`, which makes a wire, and its ends, `SendEnd` and `ReceiveEnd`
+//! - `received`: `Received`, what a receive found
+//! - `numbering`: `Numbering`, which message may be the k-th of a wire
+//! - `board`: `Board`, the words, and `Seat`, through which a thread loads and raises them
+//! - `rule`, `board_rule`: what holds of a wire and of a board between any two steps, whoever makes them
+#![tactic(auto)]
+
+mod board;
+mod board_rule;
+mod ends;
+mod numbering;
+mod received;
+mod rule;
+
+pub use board::{Board, Seat};
+pub use ends::{ReceiveEnd, ReceivePass, SendEnd, SendPass, wire};
+pub use numbering::{AnyMessage, Numbering};
+pub use received::Received;
+pub use rule::CAPACITY;
+pub use std::alloc::AllocError as NoMemory;
