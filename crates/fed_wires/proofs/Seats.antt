@@ -15,3 +15,10 @@ pub one_less : (board : BoardId) (all rest : List Seated) (s : Seated) → all �
 one_less board all rest s items at =
     let at' : AreAt board (rest ++ s ∷ []) = subst (AreAt board) items at in
     ((λ k u e. at' k u (at_longer rest (s ∷ []) k u e)), at' (length rest) s (at_last rest s (length rest) refl))
+
+-- one of some new seats is taken, the last
+pub one_fewer : (board : BoardId) (m n : ℕ) (words : ℕ → Owned) (all rest : List Seated) (s : Seated) → m ≡ n + 1 → all ≡ rest ++ s ∷ [] → AreNewSeats board m words all → AreNewSeats board n words rest × (s ≡ new_seat board (words n))
+one_fewer board m n words all rest s more items are =
+    let are' : AreNewSeats board m words (rest ++ s ∷ []) = subst (AreNewSeats board m words) items are in
+    let len : length rest ≡ n = omega (arith, are'.0, length-append rest (s ∷ [])) in
+    ((len, λ k u e. are'.1 k u (at_longer rest (s ∷ []) k u e)), are'.1 n s (at_last rest s n len))
