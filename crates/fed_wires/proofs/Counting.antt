@@ -1,10 +1,12 @@
 -- Each step of a board keeps its rule.
-use Rattle.std.proofs.Common.{◌≡◌, ◌≢◌, ℕ, zero, suc, ◌+◌, ◌<◌, ◌≤◌, Bool, cond, eqb, eq-eqb, ne_eqb, List, [], ◌∷◌, length, get_or, set, replicate, max, sym, refl, ap, ◌∙◌, subst, arith}
+use Rattle.std.proofs.Common.{◌≡◌, ◌≢◌, ℕ, zero, suc, ◌+◌, ◌<◌, ◌≤◌, Bool, cond, eqb, eq-eqb, ne_eqb, List, [], ◌∷◌, length, get_or, set, replicate, max, sym, refl, ap, ◌∙◌, subst, ⊎_elim, arith}
 use Rattle.std.proofs.Math.ListN.{length-set}
 use Rattle.std.proofs.lemmas.List.{get_or-set_same, get_or-set_other, set-get_or}
-use mathlib.Core.Option.{none}
+use mathlib.Core.Option.{some, none}
+use lib.ListN.{get_elem?}
 use Rattle.atomic_table.specs.Table.{Me, Allows, Splits, Joins, opening, step}
 use Rattle.atomic_table.specs.Table.Act.{keeps}
+use Rattle.atomic_table.proofs.Lists.{at_set}
 use Rattle.fed_wires.specs.declared.board_rule.Look.{Look}
 use Rattle.fed_wires.specs.BoardRule.{owned, look, looker, all_words, without_first, first_alone, Fits, Counted, Loaded, Raised}
 use Rattle.fed_wires.proofs.Views.{Each, each_set, each_more, each_one}
@@ -123,9 +125,49 @@ admits size seat v s h at =
     let vs : List Look = set s.views seat v in
     (h.0, h.1, each_more (Fits h.0 s.words) vs (looker v.seen 0) (each_set (Fits h.0 s.words) s.views seat v mine (λ j u _ e. h.2 j u e)) ((λ k low high. absurd (omega arith)), mine.1))
 
+-- the view of the other seat, of two that are joined
+theirs_was : (views : List Look) (seat : ℕ) (both : Look) (other : ℕ) (w : Look) → ¬ (other ≡ seat) → get_elem? (set views seat both) other ≡ some w → get_elem? views other ≡ some w
+theirs_was views seat both other w two there = ⊎_elim (λ here. absurd (two here.0)) (λ apart. apart.1) (at_set views seat other both w there)
+
+-- a seat takes in what another has seen
+pub judges : (size seat : ℕ) (v : Look) (other : ℕ) (w : Look) → Joins (Counted size) seat v other w (look v.owned w.seen v.loads) (looker [] 0)
+judges size seat v other w s h at two there =
+    let both : Look = look v.owned w.seen v.loads in
+    let Fit : ℕ → Look → Type 0 = Fits h.0 s.words in
+    let theirs = h.2 other w (theirs_was s.views seat both other w two there) in
+    let old : Each Fit (set s.views seat both) = each_set Fit s.views seat both ((h.2 seat v at).0, theirs.1) (λ j u _ e. h.2 j u e) in
+    (h.0, h.1, each_set Fit (set s.views seat both) other (looker [] 0) ((λ k low high. absurd (omega arith)), λ k. omega arith) (λ j u _ e. old j u e))
+
 -- a seat ends
 pub joins : (size seat : ℕ) (v : Look) (other : ℕ) (w : Look) → Joins (Counted size) seat v other w v (looker [] 0)
 joins size seat v other w s h at two there =
     let Fit : ℕ → Look → Type 0 = Fits h.0 s.words in
     let old : Each Fit (set s.views seat v) = each_set Fit s.views seat v (h.2 seat v at) (λ j u _ e. h.2 j u e) in
     (h.0, h.1, each_set Fit (set s.views seat v) other (looker [] 0) ((λ k low high. absurd (omega arith)), λ k. omega arith) (λ j u _ e. old j u e))
+
+-- all that one seat owns is another's
+passed : ℕ → ℕ → (ℕ → ℕ) → ℕ → ℕ
+passed from to owner k = cond (eqb (owner k) from) to (owner k)
+
+passed_here : (from to : ℕ) (owner : ℕ → ℕ) (k : ℕ) → owner k ≡ from → passed from to owner k ≡ to
+unfolding passed
+passed_here from to owner k is = let P : Bool → Type 0 = λ b. cond b to (owner k) ≡ to in subst P (sym (eq-eqb (owner k) from is)) refl
+
+passed_else : (from to : ℕ) (owner : ℕ → ℕ) (k : ℕ) → owner k ≢ from → passed from to owner k ≡ owner k
+unfolding passed
+passed_else from to owner k apart = let P : Bool → Type 0 = λ b. cond b to (owner k) ≡ owner k in subst P (sym (ne_eqb (owner k) from apart)) refl
+
+-- a seat takes in what another owns
+pub owns : (size seat : ℕ) (v : Look) (other : ℕ) (w : Look) → Joins (Counted size) seat v other w (look w.owned v.seen v.loads) (looker [] 0)
+owns size seat v other w s h at two there =
+    let both : Look = look w.owned v.seen v.loads in
+    let theirs = h.2 other w (theirs_was s.views seat both other w two there) in
+    let owner : ℕ → ℕ = passed other seat h.0 in
+    let Others : ℕ → Look → Type 0 = λ j u. j ≢ other → Fits owner s.words j u in
+    let old : Each Others (set s.views seat both) =
+    each_set Others s.views seat both
+    (λ _. ((λ k low high. let had = theirs.0 k low high in (passed_here other seat h.0 k had.0, had.1)), (h.2 seat v at).1))
+    (λ j u _ e apart.
+    let fit = h.2 j u e in
+    ((λ k low high. let had = fit.0 k low high in (passed_else other seat h.0 k (λ (is : h.0 k ≡ other). apart (sym had.0 ∙ is)) ∙ had.0, had.1)), fit.1)) in
+    (owner, h.1, each_set (Fits owner s.words) (set s.views seat both) other (looker [] 0) ((λ k low high. absurd (omega arith)), λ k. omega arith) (λ j u apart e. old j u e apart))

@@ -4,7 +4,7 @@ ghost use Rattle.fed_wires.specs.Board.{word_count};
 ghost use Rattle.fed_wires.specs.BoardRule.{Owns};
 ghost use Rattle.fed_wires.specs.Seat.{IsOwner, AreAt, AreOwners, AreReaders, with_load, with_raise};
 
-use crate::board_rule::{Admit, Counts, Deal, End, Loads, Look, Raises};
+use crate::board_rule::{Admit, Counts, Deal, End, Judge, Loads, Look, Own, Raises};
 use atomic_table::{Seat as Token, Table};
 use std::alloc::{AllocError, Global};
 use std::marker::Model;
@@ -101,6 +101,22 @@ impl Board {
         self.table
             .shared
             .fetch_max::<Raises>(&mut seat.token, word, count);
+    }
+
+    /// Compares what a seat has seen in the word that another seat owns with the count of that one: it is no more.
+    pub fn compare(&self, owner: &mut Seat, reader: &mut Seat)
+        requires board { (owner.old.board ≡ self.now.id) × (reader.old.board ≡ self.now.id) }
+        requires owner { IsOwner owner.old }
+        ensures same { (owner.new ≡ owner.old) × (reader.new ≡ reader.old) }
+        ensures below { slice_index reader.old.seen owner.old.owned.from ≤ owner.old.owned.count }
+    {
+        let word = owner.word;
+        let shared = &self.table.shared;
+        let mut own = shared.split_seat::<Deal>(&mut owner.token);
+        let seen = shared.split_seat::<Admit>(&mut reader.token);
+        shared.join_seat::<Judge>(&mut own, seen);
+        shared.load::<Loads>(&mut own, word);
+        shared.join_seat::<Own>(&mut owner.token, own);
     }
 
     /// Ends the board, and all seats at it with it.

@@ -68,6 +68,30 @@ impl Split<Look> for Admit {
     ghost right = { λ v. looker v.seen 0 };
 }
 
+// A seat that owns a word takes in what another has seen.
+pub(crate) struct Judge;
+
+impl Join<Look> for Judge {
+    ghost use Rattle.std.specs.Prelude.{[]};
+    ghost use Rattle.fed_wires.specs.BoardRule.{look, looker};
+
+    ghost both = { λ v w. look v.owned w.seen v.loads };
+
+    ghost spent = { looker [] 0 };
+}
+
+// A seat takes in what another owns.
+pub(crate) struct Own;
+
+impl Join<Look> for Own {
+    ghost use Rattle.std.specs.Prelude.{[]};
+    ghost use Rattle.fed_wires.specs.BoardRule.{look, looker};
+
+    ghost both = { λ v w. look w.owned v.seen v.loads };
+
+    ghost spent = { looker [] 0 };
+}
+
 // A seat ends.
 pub(crate) struct End;
 
