@@ -26,3 +26,4 @@ pub mod Runs
 pub mod Starting
 pub mod Stored
 pub mod Journals
+pub mod ScriptSpaces

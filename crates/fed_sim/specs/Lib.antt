@@ -18,3 +18,4 @@ pub mod Steps
 pub mod Running
 pub mod NewServer
 pub mod Headline
+pub mod ScriptWords

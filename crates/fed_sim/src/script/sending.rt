@@ -5,7 +5,7 @@ ghost use Rattle.serde_json.specs.Read.{max_depth};
 
 use super::faults::{LineFault, ScriptError};
 use super::places::{is_named, place_of, set_of};
-use super::words::{first_word, whole_rest};
+use super::words::{first_word, state_key_of, whole_rest};
 use crate::step::Step;
 use fed_dest::List;
 use fed_json::{Json, MAX_LEVELS, NoMemory, read_within};
@@ -92,17 +92,6 @@ impl<'a> EduWords<'a> {
         let content = read_within(alloc, self.content.as_bytes(), MAX_LEVELS - 1)?;
         let edu = edu_of(alloc, self.kind, content)?;
         Ok(Step::OfferEdu { server, edu, dests })
-    }
-}
-
-// The state key that a word names: `-` is none, and `=` stands before the key.
-fn state_key_of(word: &str) -> Result<Option<&str>, ScriptError> {
-    if word == "-" {
-        return Ok(None);
-    }
-    match word.strip_prefix('=') {
-        Some(key) => Ok(Some(key)),
-        None => Err(ScriptError::WrongWords),
     }
 }
 
