@@ -7,7 +7,7 @@ use Rattle.fed_event.specs.Checked.{CheckedEvent}
 use Rattle.fed_event.specs.Trusting.{trusting_checks}
 use Rattle.fed_inbox.specs.Inbox.{InboxState}
 use Rattle.fed_inbox.specs.Reply.{Answer}
-use Rattle.fed_inbox.specs.Answer.{Request, IsAnswered}
+use Rattle.fed_inbox.specs.Answer.{SendRequest, IsAnswered}
 use Rattle.fed_app.specs.Words.{words_of}
 use Rattle.fed_app.specs.Lines.{words_in, wrong_line}
 use Rattle.fed_app.specs.Output.{line_of, output_of}
@@ -21,7 +21,7 @@ use Rattle.fed_http.proofs.Writes.{appends_none, appends_both}
 use Rattle.fed_http.specs.Sending.{AppendsFront}
 
 -- the output so far, followed by that of what is left, is the whole output; and line `number` is the next one
-pub record Reached (start : InboxState) (words : List (Option Request)) (before now : Option (List ℕ)) (inbox : InboxState) (left : Option (List ℕ)) (number : ℕ) : Type 0 where
+pub record Reached (start : InboxState) (words : List (Option SendRequest)) (before now : Option (List ℕ)) (inbox : InboxState) (left : Option (List ℕ)) (number : ℕ) : Type 0 where
   pub rest : List ℕ
   pub left_is : left ≡ Some rest
   pub written : List ℕ
@@ -42,7 +42,7 @@ pub reached_first : (start : InboxState) (before known : Option (List ℕ)) → 
 reached_first start before None = tt
 reached_first start before (Some bytes) = record { rest = bytes; left_is = refl; written = []; appended = appends_none before; marks = []; output_is = λ more. refl; wrong_is = refl }
 
-module _ (start : InboxState) (words : List (Option Request)) (before now : Option (List ℕ)) (inbox : InboxState) (left : Option (List ℕ)) (number : ℕ) (reached : Reached start words before now inbox left number) where
+module _ (start : InboxState) (words : List (Option SendRequest)) (before now : Option (List ℕ)) (inbox : InboxState) (left : Option (List ℕ)) (number : ℕ) (reached : Reached start words before now inbox left number) where
   pub cut_here : IsCut start words before now
   cut_here = (reached.marks ++ [], (reached.written, output_of inbox (words_in reached.rest) [], reached.output_is [], reached.appended))
 
@@ -57,14 +57,14 @@ module _ (start : InboxState) (words : List (Option Request)) (before now : Opti
     written_here (ap (λ ws. output_of inbox ws []) none),
   )
 
-  pub wrong : (later : List (Option Request)) → words_in reached.rest ≡ None ∷ later → (wrong_line words ≡ Some number) × IsWritten start words before now
+  pub wrong : (later : List (Option SendRequest)) → words_in reached.rest ≡ None ∷ later → (wrong_line words ≡ Some number) × IsWritten start words before now
   wrong later first = (
     sym reached.wrong_is ∙ ap (position_from is_none number) first,
     written_here (ap (λ ws. output_of inbox ws []) first),
   )
 
   -- what an answer adds to the output
-  answer_adds : (request : Request) (later : List (Option Request)) (answer : Answer) (new : InboxState) → words_in reached.rest ≡ Some request ∷ later
+  answer_adds : (request : SendRequest) (later : List (Option SendRequest)) (answer : Answer) (new : InboxState) → words_in reached.rest ≡ Some request ∷ later
       → {fresh : List CheckedEvent} → (step : IsAnswered trusting_checks inbox request answer new fresh) → (more : List Bool)
       → output_of start words ((reached.marks ++ step.found ∷ []) ++ more) ≡ (reached.written ++ line_of answer) ++ output_of new later more
   answer_adds request later answer new first step more =
@@ -74,7 +74,7 @@ module _ (start : InboxState) (words : List (Option Request)) (before now : Opti
       asked ∙ known ∙ ap (λ l. reached.written ++ l) told ∙ sym (append_assoc reached.written (line_of answer) (output_of new later more))
 
   -- a front of the answer's line was written
-  cut_inside : (request : Request) (later : List (Option Request)) (answer : Answer) (new : InboxState) (after : Option (List ℕ)) → words_in reached.rest ≡ Some request ∷ later
+  cut_inside : (request : SendRequest) (later : List (Option SendRequest)) (answer : Answer) (new : InboxState) (after : Option (List ℕ)) → words_in reached.rest ≡ Some request ∷ later
       → {fresh : List CheckedEvent} → IsAnswered trusting_checks inbox request answer new fresh → AppendsFront now after (line_of answer) → IsCut start words before after
   cut_inside request later answer new after first step part =
       let (front, rest, split, appended) = part in
@@ -85,7 +85,7 @@ module _ (start : InboxState) (words : List (Option Request)) (before now : Opti
       ((reached.marks ++ step.found ∷ []) ++ [], (w ++ front, rest ++ o, whole, appends_both before now after w front reached.appended appended))
 
   -- the whole line was
-  one_further : (request : Request) (more : List ℕ) (answer : Answer) (new : InboxState) (after : Option (List ℕ)) → words_in reached.rest ≡ Some request ∷ words_in more
+  one_further : (request : SendRequest) (more : List ℕ) (answer : Answer) (new : InboxState) (after : Option (List ℕ)) → words_in reached.rest ≡ Some request ∷ words_in more
       → {fresh : List CheckedEvent} → IsAnswered trusting_checks inbox request answer new fresh → Appends now after (line_of answer) → Reached start words before after new (Some more) (number + 1)
   one_further request more answer new after first step appended = record {
     rest = more;
@@ -98,19 +98,19 @@ module _ (start : InboxState) (words : List (Option Request)) (before now : Opti
   }
 
   -- the words of the line that was taken stand first among what is left
-  words_next : (line : List ℕ) (then : Option (List ℕ)) (w : Option Request) → IfSome left (λ bytes. TakesFirst bytes then line) → w ≡ words_of line
+  words_next : (line : List ℕ) (then : Option (List ℕ)) (w : Option SendRequest) → IfSome left (λ bytes. TakesFirst bytes then line) → w ≡ words_of line
       → (more : List ℕ) × (then ≡ Some more) × (words_in reached.rest ≡ w ∷ words_in more)
   words_next line then w took is =
       let (more, left_is, lines_are) = at_known (λ bytes. TakesFirst bytes then line) left reached.rest reached.left_is took in
       (more, left_is, ap (map words_of) lines_are ∙ ap (λ v. v ∷ words_in more) (sym is))
 
-by_fault : (start : InboxState) (words : List (Option Request)) (old new : Option (List ℕ)) (kind : ErrorKind) (fault : RunFault) → IsFaultOf kind fault
+by_fault : (start : InboxState) (words : List (Option SendRequest)) (old new : Option (List ℕ)) (kind : ErrorKind) (fault : RunFault) → IsFaultOf kind fault
     → IsCut start words old new → IsEnd start words old new (Err fault)
 by_fault start words old new kind Memory of cut = cut
 by_fault start words old new kind (WrongWords line) of cut = absurd of
 by_fault start words old new kind Io of cut = cut
 
-by_result : (start : InboxState) (words : List (Option Request)) (old new : Option (List ℕ)) (kind : ErrorKind) (result : Result (Unit {0}) RunFault) → IsErrAnd result (IsFaultOf kind)
+by_result : (start : InboxState) (words : List (Option SendRequest)) (old new : Option (List ℕ)) (kind : ErrorKind) (result : Result (Unit {0}) RunFault) → IsErrAnd result (IsFaultOf kind)
     → IsCut start words old new → IsEnd start words old new result
 by_result start words old new kind (Ok done) of cut = absurd of
 by_result start words old new kind (Err fault) of cut = by_fault start words old new kind fault of cut
@@ -134,7 +134,7 @@ module _ (known : Option (List ℕ)) (start : InboxState) (before now : Option (
   pub read_fails : (kind : ErrorKind) (result : Result (Unit {0}) RunFault) → IsErrAnd result (IsFaultOf kind) → Ends known start before now result
   read_fails kind result of = if_known known (λ bytes reached. by_result start _ before now kind result of (cut_here start _ before now inbox left number reached)) runs
 
-  module _ (line : List ℕ) (then : Option (List ℕ)) (took : IfSome left (λ bytes. TakesFirst bytes then line)) (request : Request) (is : Some request ≡ words_of line)
+  module _ (line : List ℕ) (then : Option (List ℕ)) (took : IfSome left (λ bytes. TakesFirst bytes then line)) (request : SendRequest) (is : Some request ≡ words_of line)
       (answer : Answer) (new : InboxState) {fresh : List CheckedEvent} (step : IsAnswered trusting_checks inbox request answer new fresh) (after : Option (List ℕ)) where
     pub write_fails : (kind : ErrorKind) (result : Result (Unit {0}) RunFault) → IsErrAnd result (IsFaultOf kind) → AppendsFront now after (line_of answer) → Ends known start before after result
     write_fails kind result of part =
@@ -151,10 +151,10 @@ module _ (known : Option (List ℕ)) (start : InboxState) (before now : Option (
 
 -- ---- a run that does not begin
 
-nothing_written : (start : InboxState) (words : List (Option Request)) (before : Option (List ℕ)) → IsCut start words before before
+nothing_written : (start : InboxState) (words : List (Option SendRequest)) (before : Option (List ℕ)) → IsCut start words before before
 nothing_written start words before = ([], ([], output_of start words [], refl, appends_none before))
 
-by_memory : (start : InboxState) (words : List (Option Request)) (before : Option (List ℕ)) (result : Result (Unit {0}) RunFault) → IsErrAnd result (λ fault. fault ≡ Memory) → IsEnd start words before before result
+by_memory : (start : InboxState) (words : List (Option SendRequest)) (before : Option (List ℕ)) (result : Result (Unit {0}) RunFault) → IsErrAnd result (λ fault. fault ≡ Memory) → IsEnd start words before before result
 by_memory start words before (Ok done) of = absurd of
 by_memory start words before (Err fault) of = subst (λ f. IsEnd start words before before (Err f)) (sym of) (nothing_written start words before)
 

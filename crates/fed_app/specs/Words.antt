@@ -2,7 +2,7 @@
 use Rattle.std.specs.Prelude.{ℕ, List, Bool, ◌&&◌, ◌==◌, nat_lt, length, Option, Some, None, if◌then◌else◌}
 use Rattle.std.specs.List.{before_first, after_first}
 use Rattle.std.specs.Str.{is_utf8}
-use Rattle.fed_inbox.specs.Answer.{Request, request_of}
+use Rattle.fed_inbox.specs.Answer.{SendRequest, request_of}
 
 abbrev pub is_space : ℕ → Bool
 is_space byte = byte == 32
@@ -22,11 +22,11 @@ abbrev pub is_word : List ℕ → Bool
 is_word bytes = has_bytes bytes && is_utf8 bytes
 
 -- the origin and the transaction number are words, and the body is not empty
-abbrev pub are_words : Request → Bool
+abbrev pub are_words : SendRequest → Bool
 are_words r = is_word r.origin && is_word r.txn && has_bytes r.body
 
-abbrev pub parts_of : List ℕ → Request
+abbrev pub parts_of : List ℕ → SendRequest
 parts_of line = request_of (first_word line) (first_word (later_words line)) (later_words (later_words line))
 
-abbrev pub words_of : List ℕ → Option Request
+abbrev pub words_of : List ℕ → Option SendRequest
 words_of line = if are_words (parts_of line) then Some (parts_of line) else None

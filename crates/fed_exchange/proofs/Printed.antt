@@ -18,7 +18,7 @@ use Rattle.base64.specs.Rfc4648.{encode_symbols}
 use Rattle.httparse.specs.Grammar.{AllPass, is_uri_byte, is_value_byte, is_ows, trim_ows}
 use Rattle.httparse.proofs.TrimLemmas.{trim_ows_space, skip_ows_no}
 use Rattle.fed_dest.specs.ServerName.{is_text_of, is_dns_char, is_ipv6_char, IsHost, IsHostAndPort, IsServerName}
-use Rattle.fed_http.specs.WrittenHeaders.{escaped, in_quotes}
+use Rattle.fed_http.specs.XMatrixWriting.{escaped, in_quotes}
 
 -- from `!` to `~`, and with the space
 abbrev pub is_printed : ℕ → Bool

@@ -18,9 +18,9 @@ use Rattle.fed_json.specs.CanonicalText.{canonical_text}
 use Rattle.fed_keys.specs.StandIn.{stand_in_key, stand_in_secret, stand_in_signature}
 use Rattle.fed_http.specs.Limits.{max_head}
 use Rattle.fed_http.specs.Message.{RequestValue}
-use Rattle.fed_http.specs.Signing.{Asked, signed_text, sent_fields, request_of, IsSendable}
+use Rattle.fed_http.specs.XMatrixSigning.{SignableJson, signed_text, sent_fields, request_of, IsSendable}
 use Rattle.fed_http.specs.Text.{IsText}
-use Rattle.fed_http.specs.WrittenHeaders.{escaped, in_quotes, header_text}
+use Rattle.fed_http.specs.XMatrixWriting.{escaped, in_quotes, header_text}
 use Rattle.fed_http.specs.Writing.{request_bytes, IsWritableField}
 use Rattle.fed_http.specs.declared.message.Kind.TheVariants.{Requests}
 use Rattle.fed_http.specs.declared.message.Message.TheVariants as message
@@ -125,7 +125,7 @@ head_size target dest header count t d h c =
 -- ---- the request
 
 module _ (origin dest : List ℕ) (epoch : ℕ) (t : TransactionValue) (named : IsServerName origin) (other : IsServerName dest) (limits : IsWithinLimits t) (readable : IsReadable origin epoch t) where
-  abbrev pub asked : Asked
+  abbrev pub asked : SignableJson
   asked = asked_of origin dest epoch t
 
   abbrev pub sent : RequestValue

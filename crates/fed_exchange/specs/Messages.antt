@@ -5,7 +5,7 @@ use Rattle.fed_outbox.specs.Transaction.{TransactionValue}
 use Rattle.fed_txn.specs.Reading.{body_of}
 use Rattle.fed_txn.specs.Writing.{body_value, IsWithinLimits}
 use Rattle.fed_http.specs.Message.{RequestValue, Answer}
-use Rattle.fed_http.specs.Signing.{Asked, request_of}
+use Rattle.fed_http.specs.XMatrixSigning.{SignableJson, request_of}
 use Rattle.fed_http.specs.Text.{IsText}
 use Rattle.fed_http.specs.Writing.{request_bytes, reply_bytes}
 use Rattle.fed_http.specs.declared.message.Kind.{Kind}
@@ -18,7 +18,7 @@ abbrev pub target_of : ℕ → ℕ → List ℕ
 target_of epoch n = codes "/_matrix/federation/v1/send/" ++ (decimal epoch ++ (codes "-" ++ decimal n))
 
 -- what brings a transaction from the server `origin` to the server `dest`
-abbrev pub asked_of : List ℕ → List ℕ → ℕ → TransactionValue → Asked
+abbrev pub asked_of : List ℕ → List ℕ → ℕ → TransactionValue → SignableJson
 asked_of origin dest epoch t = record {
   method = codes "PUT";
   target = target_of epoch t.number;
@@ -28,7 +28,7 @@ asked_of origin dest epoch t = record {
 }
 
 -- the bytes of its request, signed by a key of this name
-abbrev pub bytes_sent : Asked → List ℕ → (List ℕ → List ℕ) → List ℕ
+abbrev pub bytes_sent : SignableJson → List ℕ → (List ℕ → List ℕ) → List ℕ
 bytes_sent asked key sign = request_bytes (request_of asked key sign)
 
 -- The id of a transaction is made of numbers of 64 bits, and the text of its body, where it is within its limits, is read as that body.

@@ -2,8 +2,8 @@
 use Rattle.std.proofs.Common.{◌≡◌, ℕ, ◌==◌, List, [], ◌∷◌, ◌++◌, codes, Option, Some, None, option_map, refl, sym, ap, subst, ◌∙◌, arith}
 use Rattle.std.proofs.lemmas.Bool.Decides.{nat_tests}
 use Rattle.std.specs.Option.{option_to_list}
-use Rattle.fed_http.specs.declared.parameter.Raw.{Raw}
-use Rattle.fed_http.specs.declared.found.Found.{Found}
+use Rattle.fed_http.specs.declared.x_matrix.parameter.Raw.{Raw}
+use Rattle.fed_http.specs.declared.x_matrix.named_values.NamedValues.{NamedValues}
 use Rattle.fed_http.specs.XMatrix.{XMatrixValue, is_white, Parameter, AreParameters, values_under, IsSignatureText, Says, IsXMatrix}
 use Rattle.fed_http.specs.XMatrixParts.{BeginsWithout, Holds, StartsWithScheme, slot_values, value_of}
 use Rattle.fed_http.proofs.Runs.{run_unique, first_at}
@@ -50,7 +50,7 @@ slot_list : (slot : Option Raw) → slot_values slot ≡ option_to_list (option_
 slot_list None = refl
 slot_list (Some raw) = refl
 
-pub header_of : (ps : List Parameter) (text list : List ℕ) (found : Found) (origin key signed : Raw) (signature : List ℕ) → StartsWithScheme list text → AreParameters ps list → Holds ps found
+pub header_of : (ps : List Parameter) (text list : List ℕ) (found : NamedValues) (origin key signed : Raw) (signature : List ℕ) → StartsWithScheme list text → AreParameters ps list → Holds ps found
     → found.origin ≡ Some origin → found.key ≡ Some key → found.signature ≡ Some signed → IsSignatureText signature (value_of signed)
     → IsXMatrix text (record { origin = value_of origin; destination = option_map value_of found.destination; key = value_of key; signature = signature })
 header_of ps text list found origin key signed signature s are holds o k g is = (

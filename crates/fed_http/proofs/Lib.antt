@@ -2,7 +2,7 @@ pub mod Runs
 pub mod Quotes
 pub mod Parameters
 pub mod Signatures
-pub mod Founds
+pub mod NamedValues
 pub mod ParameterLists
 pub mod Headers
 mod Windows
@@ -30,7 +30,7 @@ mod HeadLemmas
 mod ChunkLemmas
 pub mod TextLemmas
 mod Cutting
-pub mod WrittenHeaders
+pub mod XMatrixTexts
 pub mod SignedTexts
 pub mod WrittenTexts
 pub mod Phrases

@@ -19,7 +19,7 @@ use Rattle.fed_http.specs.CopyParts.{IsMessageAt, AreNamed, HasBody}
 use Rattle.fed_http.specs.ChunkParts.{IsChunkedAt, BeginsChunked}
 use Rattle.fed_http.specs.Body.{IsBodyText, print_chunked, chunk_data}
 use Rattle.fed_http.specs.declared.chunks.Extent.{Extent}
-use Rattle.fed_http.specs.declared.finding.Found.{Found}
+use Rattle.fed_http.specs.declared.finding.MessageSpans.{MessageSpans}
 use Rattle.fed_http.specs.declared.framing.Framing.{Framing}
 use Rattle.fed_http.specs.declared.framing.Framing.TheVariants.{NoBody, Fixed, Chunked}
 use Rattle.fed_http.specs.declared.head.StartSpans.{StartSpans}
@@ -55,7 +55,7 @@ pub record HasTexts (window : List ℕ) (method target : Span) (fields : List He
   pub target_text : IsUtf8 (span_bytes window target)
   pub names : AreNamed window fields
 
-pub request_texts : (kind : Kind) (bytes window : List ℕ) (headers : List HeaderSpan) (method target : Span) (found : Found) (h : Head) → window ≡ take max_head bytes → found.head.start ≡ Request method target → IsFoundAt kind bytes headers found h
+pub request_texts : (kind : Kind) (bytes window : List ℕ) (headers : List HeaderSpan) (method target : Span) (found : MessageSpans) (h : Head) → window ≡ take max_head bytes → found.head.start ≡ Request method target → IsFoundAt kind bytes headers found h
     → HasTexts window method target (take found.head.fields headers)
 request_texts kind bytes window headers method target found h is starts at =
     let S : StartSpans → Type 0 = λ s. IsStartOf window s h in
@@ -108,7 +108,7 @@ body_text Chunked bytes found body at has =
 
 -- ---- messages
 
-pub message_at : (kind : Kind) (bytes : List ℕ) (headers : List HeaderSpan) (found : Found) (h : Head) (body : List ℕ) (m : Message) → IsFoundAt kind bytes headers found h → HasBody found.framing (drop found.head.len bytes) found.body.text body
+pub message_at : (kind : Kind) (bytes : List ℕ) (headers : List HeaderSpan) (found : MessageSpans) (h : Head) (body : List ℕ) (m : Message) → IsFoundAt kind bytes headers found h → HasBody found.framing (drop found.head.len bytes) found.body.text body
     → m ≡ message_of h body → IsMessageAt kind bytes m (found.head.len + found.body.text)
 message_at kind bytes headers found h body m at has is =
     let rest = drop found.head.len bytes in
@@ -135,7 +135,7 @@ message_at kind bytes headers found h body m at has is =
     }
 
 -- the message of the spans
-pub request_is : (kind : Kind) (bytes window : List ℕ) (headers : List HeaderSpan) (method target : Span) (found : Found) (h : Head) (body : List ℕ) → window ≡ take max_head bytes → found.head.start ≡ Request method target → IsFoundAt kind bytes headers found h
+pub request_is : (kind : Kind) (bytes window : List ℕ) (headers : List HeaderSpan) (method target : Span) (found : MessageSpans) (h : Head) (body : List ℕ) → window ≡ take max_head bytes → found.head.start ≡ Request method target → IsFoundAt kind bytes headers found h
     → messages.Request (record { method = span_bytes window method; target = span_bytes window target; fields = map (header_bytes window) (take found.head.fields headers); body = body }) ≡ message_of h body
 request_is kind bytes window headers method target found h body is starts at =
     let S : StartSpans → Type 0 = λ s. IsStartOf window s h in
@@ -148,7 +148,7 @@ request_is kind bytes window headers method target found h body is starts at =
     by_kind (request h) start fields = λ i. messages.Request (record { method = start.0 i; target = start.1 i; fields = fields i; body = body })
     by_kind (reply h) start fields = absurd start
 
-pub reply_is : (kind : Kind) (bytes : List ℕ) (headers : List HeaderSpan) (status : ℕ) (found : Found) (h : Head) (body : List ℕ) → found.head.start ≡ Reply status → IsFoundAt kind bytes headers found h
+pub reply_is : (kind : Kind) (bytes : List ℕ) (headers : List HeaderSpan) (status : ℕ) (found : MessageSpans) (h : Head) (body : List ℕ) → found.head.start ≡ Reply status → IsFoundAt kind bytes headers found h
     → messages.Reply (record { status = status; body = body }) ≡ message_of h body
 reply_is kind bytes headers status found h body starts at =
     let S : StartSpans → Type 0 = λ s. IsStartOf (take max_head bytes) s h in

@@ -5,7 +5,7 @@ use Rattle.std.proofs.lemmas.Bool.Decides.{nat_tests}
 use Rattle.std.proofs.lemmas.List.{get_or-map, length-map}
 use Rattle.std.specs.Char.{to_ascii_lowercase}
 use Rattle.std.specs.List.{list_all}
-use Rattle.fed_http.specs.declared.found.Found.{Found}
+use Rattle.fed_http.specs.declared.x_matrix.named_values.NamedValues.{NamedValues}
 use Rattle.fed_http.specs.XMatrix.{XMatrixValue, is_white, is_plain, is_name_char, IsRunOf, IsWhite, IsWritten, IsParameter, Parameter, AreFurther, AreParameters, Says}
 use Rattle.fed_http.specs.XMatrixParts.{BeginsWithout, DoesNotSay, Holds, IsEnd, SkipsRun, StartsWith, StartsWithComma, StartsWithScheme}
 use Rattle.fed_http.proofs.Runs.{front, run_unique, stop_from_end, Lacks, first_at, holds_it, lacks_other}
@@ -120,16 +120,16 @@ behind_of (p ∷ ps) text some (before, behind, parameter, rest, white, more, is
 -- ---- the scan
 
 -- these parameters are scanned, and the rest of the text is left
-pub record Scanned (text left : List ℕ) (found : Found) : Type 0 where
+pub record Scanned (text left : List ℕ) (found : NamedValues) : Type 0 where
   pub done : List Parameter
   pub holds : Holds done found
   pub back : (ps : List Parameter) → AreParameters ps left → AreParameters (done ++ ps) text
   pub only : (all : List Parameter) → AreParameters all text → (ps : List Parameter) × (all ≡ done ++ ps) × AreParameters ps left
 
-pub scanned_nothing : (text : List ℕ) (found : Found) → Holds [] found → Scanned text text found
+pub scanned_nothing : (text : List ℕ) (found : NamedValues) → Holds [] found → Scanned text text found
 scanned_nothing text found holds = record { done = []; holds = holds; back = λ ps h. h; only = λ all h. (all, refl, h) }
 
-pub scanned_more : (text left behind rest name value : List ℕ) (found next : Found) → (s : Scanned text left found) → StartsWith name value behind left → IsOnly name value behind left
+pub scanned_more : (text left behind rest name value : List ℕ) (found next : NamedValues) → (s : Scanned text left found) → StartsWith name value behind left → IsOnly name value behind left
     → Holds (s.done ++ (name, value) ∷ []) next → behind ≢ [] → StartsWithComma rest behind → BeginsWithout is_white rest → Scanned text rest next
 scanned_more text left behind rest name value found next s is alone holds some comma stops = record {
   done = s.done ++ (name, value) ∷ [];
@@ -148,20 +148,20 @@ scanned_more text left behind rest name value found next s is alone holds some c
           subst (AreParameters later.later) (sym same) after.parameters,
         )
 
-pub scanned_all : (text left behind name value : List ℕ) (found : Found) → (s : Scanned text left found) → StartsWith name value behind left → behind ≡ [] → AreParameters (s.done ++ (name, value) ∷ []) text
+pub scanned_all : (text left behind name value : List ℕ) (found : NamedValues) → (s : Scanned text left found) → StartsWith name value behind left → behind ≡ [] → AreParameters (s.done ++ (name, value) ∷ []) text
 scanned_all text left behind name value found s is none = s.back ((name, value) ∷ []) (with_first [] left name value behind is none)
 
-pub none_first : (text left : List ℕ) (found : Found) → Scanned text left found → ((n v rest : List ℕ) → StartsWith n v rest left → IsEnd rest → ⊥) → (ps : List Parameter) (h : XMatrixValue) → AreParameters ps text → Says ps h → ⊥
+pub none_first : (text left : List ℕ) (found : NamedValues) → Scanned text left found → ((n v rest : List ℕ) → StartsWith n v rest left → IsEnd rest → ⊥) → (ps : List Parameter) (h : XMatrixValue) → AreParameters ps text → Says ps h → ⊥
 none_first text left found s none ps h are says = let (left_ps, whole, rest) = s.only ps are in no_parameter left_ps left none rest
 
-pub none_says : (text left behind name value : List ℕ) (found : Found) → (s : Scanned text left found) → IsOnly name value behind left → DoesNotSay (s.done ++ (name, value) ∷ [])
+pub none_says : (text left behind name value : List ℕ) (found : NamedValues) → (s : Scanned text left found) → IsOnly name value behind left → DoesNotSay (s.done ++ (name, value) ∷ [])
     → (ps : List Parameter) (h : XMatrixValue) → AreParameters ps text → Says ps h → ⊥
 none_says text left behind name value found s alone silent ps h are says =
     let (left_ps, whole, rest) = s.only ps are in
     let later = later_of left_ps left name value behind alone rest in
     silent later.later h (subst (λ all. Says all h) (whole ∙ ap (λ t. s.done ++ t) later.whole ∙ sym (append_assoc s.done ((name, value) ∷ []) later.later)) says)
 
-pub none_behind : (text left behind name value : List ℕ) (found : Found) → (s : Scanned text left found) → IsOnly name value behind left → behind ≢ [] → ((rest : List ℕ) → StartsWithComma rest behind → ⊥)
+pub none_behind : (text left behind name value : List ℕ) (found : NamedValues) → (s : Scanned text left found) → IsOnly name value behind left → behind ≢ [] → ((rest : List ℕ) → StartsWithComma rest behind → ⊥)
     → (ps : List Parameter) (h : XMatrixValue) → AreParameters ps text → Says ps h → ⊥
 none_behind text left behind name value found s alone some none ps h are says =
     let (left_ps, whole, rest) = s.only ps are in

@@ -3,7 +3,7 @@ use Rattle.std.proofs.Common.{◌≡◌, ◌≢◌, ℕ, suc, ◌&&◌, Bool, tr
 use Rattle.std.proofs.lemmas.Bool.{false≢true}
 use Rattle.std.proofs.lemmas.Bool.Decides.{nat_tests}
 use Rattle.std.specs.List.{list_all}
-use Rattle.fed_http.specs.declared.parameter.Raw.{Raw}
+use Rattle.fed_http.specs.declared.x_matrix.parameter.Raw.{Raw}
 use Rattle.fed_http.specs.XMatrix.{is_plain, is_name_char, IsRunOf, IsEscaped, IsWritten}
 use Rattle.fed_http.specs.XMatrixParts.{quote_index, unescaped, value_of, IsEnd, StartsWith, StartsWithValue}
 use Rattle.fed_http.proofs.Runs.{front, back, run_unique, stop_from_end, Lacks, first_at, holds_it, lacks_other}

@@ -3,8 +3,8 @@ use Rattle.std.proofs.Common.{◌≡◌, ℕ, ◌≤◌, List, [], ◌∷◌, le
 use Rattle.std.proofs.lemmas.List.Elements.{All-nil, All-cons}
 use Rattle.fed_json.specs.CanonicalText.{canonical_text}
 use Rattle.fed_http.specs.Framing.{framing_of}
-use Rattle.fed_http.specs.Signing.{Asked, sent_fields, request_of, header_of, IsSendable}
-use Rattle.fed_http.specs.WrittenHeaders.{header_text}
+use Rattle.fed_http.specs.XMatrixSigning.{SignableJson, sent_fields, request_of, header_of, IsSendable}
+use Rattle.fed_http.specs.XMatrixWriting.{header_text}
 use Rattle.fed_http.specs.Text.{IsRequestText}
 use Rattle.fed_http.specs.declared.framing.Framing.TheVariants.{Fixed}
 use Rattle.fed_http.specs.Writing.{IsWritable, IsWritableField, request_bytes}
@@ -26,7 +26,7 @@ fields host authorization count few h a =
 framed : (host authorization : List ℕ) (count : ℕ) → count ≤ 16777216 → framing_of (sent_fields host authorization count) ≡ Some (Fixed count)
 framed host authorization count few = length_given count few
 
-pub sent_text_is : (asked : Asked) (key : List ℕ) (sign : List ℕ → List ℕ) → IsSendable asked key sign → IsRequestText (request_of asked key sign) (request_bytes (request_of asked key sign))
+pub sent_text_is : (asked : SignableJson) (key : List ℕ) (sign : List ℕ → List ℕ) → IsSendable asked key sign → IsRequestText (request_of asked key sign) (request_bytes (request_of asked key sign))
 sent_text_is asked key sign h =
     let count = length (canonical_text asked.content) in
     let header = header_text (header_of asked key sign) in

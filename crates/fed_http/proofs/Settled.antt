@@ -10,7 +10,7 @@ use Rattle.fed_http.specs.Faults.{IsFault}
 use Rattle.fed_http.specs.declared.chunks.Extent.{Extent}
 use Rattle.fed_http.specs.declared.fault.HttpFault.{HttpFault}
 use Rattle.fed_http.specs.declared.fault.HttpFault.TheVariants.{Memory}
-use Rattle.fed_http.specs.declared.finding.Found.{Found}
+use Rattle.fed_http.specs.declared.finding.MessageSpans.{MessageSpans}
 use Rattle.fed_http.specs.declared.framing.Framing.{Framing}
 use Rattle.fed_http.specs.declared.framing.Framing.TheVariants.{NoBody, Fixed, Chunked}
 use Rattle.fed_http.specs.declared.message.Kind.{Kind}
@@ -23,7 +23,7 @@ some_body NoBody bytes found at = ([], refl)
 some_body (Fixed n) bytes found at = (take found.text bytes, refl)
 some_body Chunked bytes found at = (chunk_data at.body.chunks, record { begins = chunked_begins bytes found at; data_is = refl })
 
-pub fault_never_found : (kind : Kind) (bytes : List ℕ) (headers : List HeaderSpan) (found : Found) (fault : HttpFault) → fault ≢ Memory → IsFault kind bytes fault → IsSomeFoundAt kind bytes headers found → ⊥
+pub fault_never_found : (kind : Kind) (bytes : List ℕ) (headers : List HeaderSpan) (found : MessageSpans) (fault : HttpFault) → fault ≢ Memory → IsFault kind bytes fault → IsSomeFoundAt kind bytes headers found → ⊥
 fault_never_found kind bytes headers found fault other is (h, at) =
     let body = some_body found.framing (drop found.head.len bytes) found.body at.body in
     let m = message_of h body.0 in

@@ -10,8 +10,8 @@ use Rattle.fed_json.specs.Profile.{IsProfile, all_whole, comes_before}
 use Rattle.fed_json.specs.CanonicalText.{canonical_text, IsCanonicalText}
 use Rattle.fed_json.proofs.KeyOrder.{chars_order}
 use Rattle.fed_json.proofs.CanonicalTexts.{text_has}
-use Rattle.fed_http.specs.Signing.{Asked, Signable, content_member, text_member, signed_bytes, signed_value, signed_text, header_for, header_of, sent_fields, request_for, request_of}
-use Rattle.fed_http.specs.WrittenHeaders.{header_text}
+use Rattle.fed_http.specs.XMatrixSigning.{SignableJson, Signable, content_member, text_member, signed_bytes, signed_value, signed_text, header_for, header_of, sent_fields, request_for, request_of}
+use Rattle.fed_http.specs.XMatrixWriting.{header_text}
 use Rattle.fed_http.specs.Message.{RequestValue}
 use Rattle.std.proofs.lemmas.Fmt.{decimal_nonempty}
 use Rattle.std.specs.Prelude.{pos, negsuc, ◌^◌}
@@ -30,10 +30,10 @@ signed_parts s x₀ x₁ x₂ x₃ x₄ x₅ x₆ x₇ p₀ p₁ p₂ p₃ p₄ 
     (text_member (codes ",\"origin\":") s.origin) (text_member (codes ",\"uri\":") s.target) (codes "}") p₀ p₁ p₂ p₃ p₄ p₅ p₆ p₇
 
 -- a request whose body is a canonical text
-abbrev pub signable : Asked → List ℕ → Signable
+abbrev pub signable : SignableJson → List ℕ → Signable
 signable asked content = record { method = asked.method; target = asked.target; origin = asked.origin; destination = asked.destination; content = content }
 
-parts : (asked : Asked)
+parts : (asked : SignableJson)
     → codes "{" ++ ((codes "\"content\":" ++ (canonical_text asked.content ++ codes ",")) ++ (text_member (codes "\"destination\":") asked.destination ++ (text_member (codes ",\"method\":") asked.method
     ++ (text_member (codes ",\"origin\":") asked.origin ++ (text_member (codes ",\"uri\":") asked.target ++ codes "}")))))
     ≡ signed_text asked
@@ -45,15 +45,15 @@ member_there [] some = absurd (omega arith)
 member_there (b ∷ content) some = refl
 
 -- what is signed of it is the canonical text of the object
-pub signed_is : (asked : Asked) (content : List ℕ) → 0 < length content → content ≡ canonical_text asked.content → signed_bytes (signable asked content) ≡ signed_text asked
+pub signed_is : (asked : SignableJson) (content : List ℕ) → 0 < length content → content ≡ canonical_text asked.content → signed_bytes (signable asked content) ≡ signed_text asked
 signed_is asked content some is =
     let rest = text_member (codes "\"destination\":") asked.destination ++ (text_member (codes ",\"method\":") asked.method ++ (text_member (codes ",\"origin\":") asked.origin ++ (text_member (codes ",\"uri\":") asked.target ++ codes "}"))) in
     ap (λ m. codes "{" ++ (m ++ rest)) (member_there content some ∙ ap (λ c. codes "\"content\":" ++ (c ++ codes ",")) is) ∙ parts asked
 
-pub header_is : (asked : Asked) (content key : List ℕ) (sign : List ℕ → List ℕ) → 0 < length content → content ≡ canonical_text asked.content → header_for (signable asked content) key sign ≡ header_of asked key sign
+pub header_is : (asked : SignableJson) (content key : List ℕ) (sign : List ℕ → List ℕ) → 0 < length content → content ≡ canonical_text asked.content → header_for (signable asked content) key sign ≡ header_of asked key sign
 header_is asked content key sign some is = ap (λ t. record { origin = asked.origin; destination = Some asked.destination; key = key; signature = sign t }) (signed_is asked content some is)
 
-pub request_is : (asked : Asked) (content key : List ℕ) (sign : List ℕ → List ℕ) → 0 < length content → content ≡ canonical_text asked.content → request_for (signable asked content) key sign ≡ request_of asked key sign
+pub request_is : (asked : SignableJson) (content key : List ℕ) (sign : List ℕ → List ℕ) → 0 < length content → content ≡ canonical_text asked.content → request_for (signable asked content) key sign ≡ request_of asked key sign
 request_is asked content key sign some is =
     ap (λ h. record { method = asked.method; target = asked.target; fields = sent_fields asked.destination (header_text h) (length content); body = content }) (header_is asked content key sign some is)
     ∙ ap (λ c. record { method = asked.method; target = asked.target; fields = sent_fields asked.destination (header_text (header_of asked key sign)) (length c); body = c }) is
@@ -77,7 +77,7 @@ ascii_key k a = is_utf8-from_IsUtf8 k (IsUtf8-are_ascii k a)
 before : (k l : List ℕ) → are_ascii k ≡ true → are_ascii l ≡ true → slice_cmp nat_cmp k l ≡ Less → comes_before k l ≡ true
 before k l a b order = ap is_lt (chars_order k l (IsUtf8-are_ascii k a) (IsUtf8-are_ascii l b) ∙ order)
 
-signed_profile : (asked : Asked) → IsProfile asked.content → IsProfile (signed_value asked)
+signed_profile : (asked : SignableJson) → IsProfile asked.content → IsProfile (signed_value asked)
 signed_profile asked is = record {
   whole = rw is.whole refl;
   rising = rw (
@@ -94,7 +94,7 @@ signed_profile asked is = record {
   ) refl;
 }
 
-pub signed_canonical : (asked : Asked) → IsProfile asked.content → IsCanonicalText (signed_value asked) (signed_text asked)
+pub signed_canonical : (asked : SignableJson) → IsProfile asked.content → IsCanonicalText (signed_value asked) (signed_text asked)
 signed_canonical asked is = let whole = signed_profile asked is in text_has (signed_value asked) whole.whole whole.rising
 
 pub request_made : (s : Signable) (key : List ℕ) (sign : List ℕ → List ℕ) (method target body : List ℕ) (fields : List (List ℕ × List ℕ)) → method ≡ s.method → target ≡ s.target

@@ -9,7 +9,7 @@ use Rattle.fed_http.specs.Waiting.{LacksChunks}
 use Rattle.fed_http.specs.declared.chunks.Extent.{Extent}
 use Rattle.fed_http.specs.declared.fault.HttpFault.{HttpFault}
 use Rattle.fed_http.specs.declared.fault.HttpFault.TheVariants.{BadHead, TooLarge, BadLength}
-use Rattle.fed_http.specs.declared.finding.Found.{Found}
+use Rattle.fed_http.specs.declared.finding.MessageSpans.{MessageSpans}
 use Rattle.fed_http.specs.declared.framing.Framing.{Framing}
 use Rattle.fed_http.specs.declared.framing.Framing.TheVariants.{NoBody, Fixed, Chunked}
 use Rattle.fed_http.specs.declared.head.StartSpans.{StartSpans}
@@ -48,12 +48,12 @@ IsBodyFault Chunked bytes fault = IsChunkedFault bytes fault
 -- ---- the message
 
 -- the parts of a message are there, behind one another
-pub record IsFoundAt (kind : Kind) (bytes : List ℕ) (headers : List HeaderSpan) (found : Found) (h : Head) : Type 0 where
+pub record IsFoundAt (kind : Kind) (bytes : List ℕ) (headers : List HeaderSpan) (found : MessageSpans) (h : Head) : Type 0 where
   pub at : IsHeadAt kind (take max_head bytes) headers found.head h
   pub final : IsFinal h
   pub framed : head_framing h ≡ Some found.framing
   pub body : IsBodyAt found.framing (drop found.head.len bytes) found.body
   pub fits : found.head.len ≤ length bytes
 
-abbrev pub IsSomeFoundAt : Kind → List ℕ → List HeaderSpan → Found → Type 0
+abbrev pub IsSomeFoundAt : Kind → List ℕ → List HeaderSpan → MessageSpans → Type 0
 IsSomeFoundAt kind bytes headers found = (h : Head) × IsFoundAt kind bytes headers found h

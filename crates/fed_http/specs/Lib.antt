@@ -1,5 +1,3 @@
-pub mod XMatrix
-pub mod XMatrixParts
 pub mod Body
 pub mod ChunkParts
 pub mod CopyParts
@@ -21,6 +19,8 @@ pub mod Text
 pub mod Unfinished
 pub mod Waiting
 pub mod Sending
-pub mod Signing
 pub mod Writing
-pub mod WrittenHeaders
+pub mod XMatrix
+pub mod XMatrixParts
+pub mod XMatrixSigning
+pub mod XMatrixWriting

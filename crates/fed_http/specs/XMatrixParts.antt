@@ -2,10 +2,10 @@
 use Rattle.std.specs.Prelude.{◌≡◌, ℕ, suc, List, [], ◌∷◌, ◌++◌, ◌==◌, ◌≤◌, Bool, true, false, IsTrue, Option, Some, None, option_map, if◌then◌else◌, length, map, codes}
 use Rattle.std.specs.Char.{to_ascii_lowercase}
 use Rattle.std.specs.List.{list_all}
-use Rattle.fed_http.specs.declared.parameter.Raw.{Raw}
-use Rattle.fed_http.specs.declared.parameter.Parameter.{Parameter as Scanned}
-use Rattle.fed_http.specs.declared.found.Found.{Found}
-use Rattle.fed_http.specs.declared.said.Said.{Said}
+use Rattle.fed_http.specs.declared.x_matrix.parameter.Raw.{Raw}
+use Rattle.fed_http.specs.declared.x_matrix.parameter.Parameter.{Parameter as Scanned}
+use Rattle.fed_http.specs.declared.x_matrix.named_values.NamedValues.{NamedValues}
+use Rattle.fed_http.specs.declared.x_matrix.x_matrix_ref.XMatrixRef.{XMatrixRef}
 use Rattle.fed_http.specs.XMatrix.{XMatrixValue, is_delimiter, is_name_char, IsRunOf, IsWhite, IsWritten, Parameter, values_under, Says}
 
 -- where the quote stands that ends a quoted value, whose first character stands behind a backslash or not
@@ -75,7 +75,7 @@ slot_values None = []
 slot_values (Some raw) = value_of raw ∷ []
 
 -- what was found is what these parameters have under the four names
-pub record Holds (ps : List Parameter) (found : Found) : Type 0 where
+pub record Holds (ps : List Parameter) (found : NamedValues) : Type 0 where
   pub origin : values_under (codes "origin") ps ≡ slot_values found.origin
   pub destination : values_under (codes "destination") ps ≡ slot_values found.destination
   pub key : values_under (codes "key") ps ≡ slot_values found.key
@@ -91,5 +91,5 @@ DoesNotSay ps = (more : List Parameter) (h : XMatrixValue) → Says (ps ++ more)
 abbrev pub IsTwice : List ℕ → List Parameter → Type 0
 IsTwice name ps = 2 ≤ length (values_under name ps)
 
-abbrev pub said_by : Said → XMatrixValue
+abbrev pub said_by : XMatrixRef → XMatrixValue
 said_by said = record { origin = value_of said.origin; destination = option_map value_of said.destination; key = value_of said.key; signature = said.signature }

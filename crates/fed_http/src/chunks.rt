@@ -60,12 +60,12 @@ pub fn find_chunked(bytes: &[u8]) -> Result<Option<Extent>, HttpFault>
     }))
 }
 
-/// The data of the chunks at the front of the bytes, one after another.
-pub fn copy_chunks(alloc: Global, bytes: &[u8]) -> Result<Vec<u8>, NoMemory>
+/// The data of the chunks at the front of the bytes, one after another. Memory for `size` bytes, which they are, is taken at once.
+pub fn copy_chunks(alloc: Global, bytes: &[u8], size: usize) -> Result<Vec<u8>, NoMemory>
     requires chunked { BeginsChunked bytes.now }
     ensures body { IfOk result (λ body. HasChunkedBody bytes.now body.items) }
 {
-    let mut body = Vec::new(alloc);
+    let mut body = Vec::with_capacity(alloc, size)?;
     let mut rest = bytes;
     loop {
         let line = match find_line(rest) {

@@ -10,7 +10,7 @@ ghost use Rattle.fed_http.specs.Waiting.{IsWaiting};
 use crate::chunks::copy_chunks;
 use crate::fault::HttpFault;
 use crate::field::Field;
-use crate::finding::{Found, find_message};
+use crate::finding::{MessageSpans, find_message};
 use crate::framing::Framing;
 use crate::head::StartSpans;
 use crate::limits::{MAX_FIELDS, window};
@@ -46,7 +46,7 @@ fn copy_message(
     kind: Kind,
     bytes: &[u8],
     fields: &[HeaderSpan],
-    found: Found,
+    found: MessageSpans,
 ) -> Result<Message, NoMemory>
     requires found { IsSomeFoundAt kind bytes.now fields.now found }
     ensures message { IfOk result (λ message. IsMessageAt kind bytes.now message (found.head.len + found.body.text)) }
@@ -70,14 +70,14 @@ fn copy_message(
 }
 
 // The body that was found.
-fn copy_body(alloc: Global, found: Found, bytes: &[u8]) -> Result<Vec<u8>, NoMemory>
+fn copy_body(alloc: Global, found: MessageSpans, bytes: &[u8]) -> Result<Vec<u8>, NoMemory>
     requires body { IsBodyAt found.framing bytes.now found.body }
     ensures body { IfOk result (λ body. HasBody found.framing bytes.now found.body.text body.items) }
 {
     match found.framing {
         Framing::NoBody => Ok(Vec::new(alloc)),
         Framing::Fixed(_) => Vec::from_slice(alloc, &bytes[..found.body.text]),
-        Framing::Chunked => copy_chunks(alloc, bytes),
+        Framing::Chunked => copy_chunks(alloc, bytes, found.body.body),
     }
 }
 

@@ -17,7 +17,7 @@ use httparse::spans::HeaderSpan;
 
 /// Where the parts of a message are in its bytes.
 #[derive(Clone, Copy)]
-pub struct Found {
+pub struct MessageSpans {
     pub head: HeadSpans,
     pub framing: Framing,
     pub body: Extent,
@@ -32,7 +32,7 @@ pub fn find_message(
     kind: Kind,
     bytes: &[u8],
     fields: &mut [HeaderSpan],
-) -> Result<Option<Found>, HttpFault>
+) -> Result<Option<MessageSpans>, HttpFault>
     requires room { length fields.old ≡ max_fields }
     ensures found { IfOk result (λ found. IfSome found (IsSomeFoundAt kind bytes.now fields.new)) }
     ensures waiting { IfOk result (λ found. IfNone found (IsWaiting kind bytes.now)) }
@@ -48,7 +48,7 @@ pub fn find_message(
     };
     let framing = framing_of_head(front, &fields[..head.fields], head.start)?;
     match find_body(framing, &bytes[head.len..])? {
-        Some(body) => Ok(Some(Found {
+        Some(body) => Ok(Some(MessageSpans {
             head,
             framing,
             body,
@@ -72,8 +72,7 @@ fn framing_of_head(
         StartSpans::Reply { status } if status < 200 => Err(HttpFault::BadHead),
         StartSpans::Reply { .. } => match framing {
             None | Some(Framing::NoBody) => Err(HttpFault::BadLength),
-            Some(Framing::Fixed(size)) => Ok(Framing::Fixed(size)),
-            Some(Framing::Chunked) => Ok(Framing::Chunked),
+            Some(framing) => Ok(framing),
         },
     }
 }

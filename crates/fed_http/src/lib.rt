@@ -18,17 +18,9 @@
 //! - `copying`: from the bytes of a message to its owned parts
 //! - `reader`: `Reader`, which reads messages from a stream of pieces
 //! - `laws`: what holds of all messages and their texts
-//! - `x_matrix`: `XMatrix`, what the Authorization field of a request says
-//! - `said`: what its text says, as it stands there
-//! - `found`: the four parameters that count, found in a text
-//! - `parameter`: the parameter at the front of a text, and its value
-//! - `quoted`: values between quotes, read and written
-//! - `run`: runs of characters at the front of a text
-//! - `separator`: what stands in front of parameters and between them
-//! - `signing`: the text that is signed for a request, and the request with its signature
 //! - `writing`: from messages to their bytes, and `phrase`, the phrase of a status
 //! - `sending`: from a reply to a writer, without memory
-//! - `x_matrix_laws`: what holds of all Authorization fields and signatures
+//! - `x_matrix`: `XMatrix`, what the Authorization field of a request says, and what is signed for a request
 #![tactic(auto)]
 
 mod chunks;
@@ -36,26 +28,18 @@ mod copying;
 mod fault;
 mod field;
 mod finding;
-mod found;
 mod framing;
 mod head;
 mod laws;
 mod limits;
 mod message;
-mod parameter;
-mod quoted;
 mod reader;
 mod reply;
 mod request;
-mod run;
-mod said;
 mod sending;
-mod separator;
-mod signing;
 mod unfinished;
 mod writing;
 mod x_matrix;
-mod x_matrix_laws;
 
 pub use fault::HttpFault;
 pub use field::Field;
@@ -70,7 +54,8 @@ pub use reader::Reader;
 pub use reply::Reply;
 pub use request::Request;
 pub use sending::{send_reply, write_whole};
-pub use signing::{SignFault, is_signed, request_text, sign, sign_request, signed_request};
 pub use writing::{phrase, write_reply, write_request};
-pub use x_matrix::{AuthFault, XMatrix};
-pub use x_matrix_laws::{one_header, signed_requests_are_read, signed_requests_check};
+pub use x_matrix::{
+    AuthFault, SignFault, XMatrix, is_signed, one_header, request_text, sign, sign_request,
+    signed_request, signed_requests_are_read, signed_requests_check,
+};

@@ -1,5 +1,5 @@
 // From messages to their bytes.
-ghost use Rattle.std.specs.Prelude.{◌≡◌, ◌++◌, IfOk};
+ghost use Rattle.std.specs.Prelude.{◌≡◌, ◌++◌, IfOk, OnOk};
 ghost use Rattle.std.specs.List.{flat_map};
 ghost use Rattle.fed_http.specs.Text.{IsReplyText, IsRequestText};
 ghost use Rattle.fed_http.specs.Writing.{IsWritable, IsWritableReply, field_line, line_end, phrase_of, reply_bytes, request_bytes, status_line};
@@ -23,8 +23,9 @@ pub fn write_request(alloc: Global, request: &Request) -> Result<Vec<u8>, NoMemo
     text.push(b' ')?;
     text.extend_from_slice(request.target().as_bytes())?;
     text.extend_from_slice(b" HTTP/1.1\r\n")?;
-    let text = with_fields(text, request.fields())?;
-    Ok(with_body(text, request.body())?)
+    push_fields(&mut text, request.fields())?;
+    push_body(&mut text, request.body())?;
+    Ok(text)
 }
 
 /// The bytes of a reply (RFC 9112, section 4): its status line, the fields Content-Type, Content-Length and Connection, an empty line and
@@ -35,27 +36,27 @@ pub fn write_reply(alloc: Global, reply: &Reply) -> Result<Vec<u8>, NoMemory>
     ensures read_back { IsWritableReply reply.now → IfOk result (λ bytes. IsReplyText reply.now bytes.items) }
 {
     let body = reply.body();
-    let text = start(alloc, reply.status())?;
-    let text = with_field(text, "Content-Type", b"application/json")?;
     let mut digits = itoa::Buffer::new();
     let count = digits.format(body.len());
-    let text = with_field(text, "Content-Length", count.as_bytes())?;
-    let text = with_field(text, "Connection", b"close")?;
-    Ok(with_body(text, body)?)
+    let mut text = Vec::new(alloc);
+    push_status_line(&mut text, reply.status())?;
+    push_field(&mut text, "Content-Type", b"application/json")?;
+    push_field(&mut text, "Content-Length", count.as_bytes())?;
+    push_field(&mut text, "Connection", b"close")?;
+    push_body(&mut text, body)?;
+    Ok(text)
 }
 
-// The status line of a reply.
-fn start(alloc: Global, status: u16) -> Result<Vec<u8>, NoMemory>
-    ensures { IfOk result (λ text. text.items ≡ status_line status (phrase_of status)) }
+// Appends the status line of a reply.
+fn push_status_line(text: &mut Vec<u8>, status: u16) -> Result<(), NoMemory>
+    ensures { OnOk result (text.new.items ≡ text.old.items ++ status_line status (phrase_of status)) }
 {
-    let mut text = Vec::new(alloc);
-    text.extend_from_slice(b"HTTP/1.1 ")?;
     let mut digits = itoa::Buffer::new();
+    text.extend_from_slice(b"HTTP/1.1 ")?;
     text.extend_from_slice(digits.format(status).as_bytes())?;
     text.push(b' ')?;
     text.extend_from_slice(phrase(status).as_bytes())?;
-    text.extend_from_slice(b"\r\n")?;
-    Ok(text)
+    text.extend_from_slice(b"\r\n")
 }
 
 /// The phrase of a status (RFC 9110, section 15), as `Not Found` for 404, and empty where it has none. It is the one that the crate `http`
@@ -69,35 +70,30 @@ pub fn phrase(status: u16) -> &'static str
     }
 }
 
-// A text with fields behind it.
-fn with_fields(text: Vec<u8>, fields: &[Field]) -> Result<Vec<u8>, NoMemory>
-    ensures { IfOk result (λ whole. whole.items ≡ text.items ++ flat_map field_line fields.now) }
+// Appends the lines of fields.
+fn push_fields(text: &mut Vec<u8>, fields: &[Field]) -> Result<(), NoMemory>
+    ensures { OnOk result (text.new.items ≡ text.old.items ++ flat_map field_line fields.now) }
 {
-    let mut text = text;
     for field in fields {
-        text = with_field(text, field.name(), field.value())?;
+        push_field(text, field.name(), field.value())?;
     }
-    Ok(text)
+    Ok(())
 }
 
-// A text with the line of a field behind it.
-fn with_field(text: Vec<u8>, name: &str, value: &[u8]) -> Result<Vec<u8>, NoMemory>
-    ensures { IfOk result (λ whole. whole.items ≡ text.items ++ field_line (name.now, value.now)) }
+// Appends the line of a field.
+fn push_field(text: &mut Vec<u8>, name: &str, value: &[u8]) -> Result<(), NoMemory>
+    ensures { OnOk result (text.new.items ≡ text.old.items ++ field_line (name.now, value.now)) }
 {
-    let mut text = text;
     text.extend_from_slice(name.as_bytes())?;
     text.extend_from_slice(b": ")?;
     text.extend_from_slice(value)?;
-    text.extend_from_slice(b"\r\n")?;
-    Ok(text)
+    text.extend_from_slice(b"\r\n")
 }
 
-// A text with an empty line and a body behind it.
-fn with_body(text: Vec<u8>, body: &[u8]) -> Result<Vec<u8>, NoMemory>
-    ensures { IfOk result (λ whole. whole.items ≡ text.items ++ (line_end ++ body.now)) }
+// Appends an empty line and a body.
+fn push_body(text: &mut Vec<u8>, body: &[u8]) -> Result<(), NoMemory>
+    ensures { OnOk result (text.new.items ≡ text.old.items ++ (line_end ++ body.now)) }
 {
-    let mut text = text;
     text.extend_from_slice(b"\r\n")?;
-    text.extend_from_slice(body)?;
-    Ok(text)
+    text.extend_from_slice(body)
 }

@@ -1,17 +1,39 @@
-// What the Authorization field of a request says.
-ghost use Rattle.std.specs.Prelude.{◌≡◌, ◌++◌, length, Err, IfOk, IsErrOf, option_map, string_bytes};
+//! Request authentication by the scheme X-Matrix (Server-Server API, "Request Authentication"): what the Authorization field of a request
+//! says, how it is read and written, and what is signed.
+//!
+//! - `XMatrix`, what the field says
+//! - `x_matrix_ref`: `XMatrixRef`, the same as it stands in the text of the field
+//! - `named_values`: `NamedValues`, the values of the four parameters that count
+//! - `parameter`: the parameter at the front of a text, and its value
+//! - `quoted`: values between quotes, read and written
+//! - `character_runs`: runs of characters at the front of a text
+//! - `separator`: what stands in front of parameters and between them
+//! - `signing`: the text that is signed for a request, and the request with its signature
+//! - `laws`: what holds of all Authorization fields and signatures
+ghost use Rattle.std.specs.Prelude.{◌≡◌, ◌++◌, length, Err, IfOk, OnOk, IsErrOf, option_map, string_bytes};
 ghost use Rattle.base64.specs.GeneralPurpose.{IsBytes};
-ghost use Rattle.fed_http.specs.WrittenHeaders.{destination_text, header_text};
+ghost use Rattle.fed_http.specs.XMatrixWriting.{destination_text, header_text};
 ghost use Rattle.fed_http.specs.XMatrix.{XMatrixValue, IsXMatrix};
 ghost use Rattle.fed_http.specs.declared.x_matrix.AuthFault.TheVariants.{Memory};
 
-use crate::quoted::with_quoted;
-use crate::said::Said;
+mod character_runs;
+mod laws;
+mod named_values;
+mod parameter;
+mod quoted;
+mod separator;
+mod signing;
+mod x_matrix_ref;
+
 use base64::engine::general_purpose::STANDARD_NO_PAD;
 use fed_json::NoMemory;
+pub use laws::{one_header, signed_requests_are_read, signed_requests_check};
+use quoted::push_quoted;
+pub use signing::{SignFault, is_signed, request_text, sign, sign_request, signed_request};
 use std::alloc::Global;
 use std::marker::Model;
 use thiserror::Error;
+use x_matrix_ref::XMatrixRef;
 
 /// Who sends a request, to whom, and the signature of the sender (Server-Server API, "Request Authentication").
 ///
@@ -73,7 +95,7 @@ impl XMatrix {
         ensures refuses { ((h : XMatrixValue) → IsXMatrix text.now h → ⊥) → result ≡ Err AuthFault.BadHeader }
         ensures only { (h : XMatrixValue) → IsXMatrix text.now h → IfOk result (λ x. x ≡ h) }
     {
-        let said = Said::of(text).ok_or(AuthFault::BadHeader)?;
+        let said = XMatrixRef::of(text).ok_or(AuthFault::BadHeader)?;
         Ok(said.keep(alloc)?)
     }
 
@@ -83,15 +105,16 @@ impl XMatrix {
         ensures exact { IfOk result (λ text. text.items ≡ header_text self.now) }
         ensures read_back { IfOk result (λ text. IsXMatrix text.items self.now) }
     {
+        let signature = STANDARD_NO_PAD.encode(alloc, self.signature())?;
         let mut text = Vec::new(alloc);
         text.extend_from_slice(b"X-Matrix origin=")?;
-        let text = with_quoted(text, self.origin().as_bytes())?;
-        let mut text = with_destination(text, self.destination())?;
+        push_quoted(&mut text, self.origin().as_bytes())?;
+        push_destination(&mut text, self.destination())?;
         text.extend_from_slice(b",key=")?;
-        let mut text = with_quoted(text, self.key().as_bytes())?;
+        push_quoted(&mut text, self.key().as_bytes())?;
         text.extend_from_slice(b",sig=")?;
-        let signature = STANDARD_NO_PAD.encode(alloc, self.signature())?;
-        Ok(with_quoted(text, signature.as_bytes())?)
+        push_quoted(&mut text, signature.as_bytes())?;
+        Ok(text)
     }
 
     /// The name of the server that sends.
@@ -128,17 +151,16 @@ impl XMatrix {
     }
 }
 
-// A text with the parameter of the destination behind it, where there is one.
-fn with_destination(text: Vec<u8>, destination: Option<&str>) -> Result<Vec<u8>, NoMemory>
-    ensures { IfOk result (λ whole. whole.items ≡ text.items ++ destination_text (option_map (λ name. name.now) destination.entry)) }
+// Appends the parameter of the destination, where there is one.
+fn push_destination(text: &mut Vec<u8>, destination: Option<&str>) -> Result<(), NoMemory>
+    ensures { OnOk result (text.new.items ≡ text.old.items ++ destination_text (option_map (λ name. name.now) destination.entry)) }
 {
-    let mut text = text;
     match destination {
         Some(name) => {
             text.extend_from_slice(b",destination=")?;
-            Ok(with_quoted(text, name.as_bytes())?)
+            push_quoted(text, name.as_bytes())
         }
-        None => Ok(text),
+        None => Ok(()),
     }
 }
 

@@ -18,7 +18,7 @@ use Rattle.fed_inbox.specs.Reply.{Answer, accepted, refused}
 use Rattle.fed_inbox.specs.Log.{LogState}
 use Rattle.fed_inbox.specs.Inbox.{InboxState, log_at, with_log}
 use Rattle.fed_inbox.specs.Taking.{taking_of}
-use Rattle.fed_inbox.specs.Answer.{Request, Step, answered, taken, with_taking, names_other, step_new, step_kept, step_signed, step_body, step_of, answer_by, logs_by, fresh_by, after, marked_answer, marked_after, marked_fresh}
+use Rattle.fed_inbox.specs.Answer.{SendRequest, Step, answered, taken, with_taking, names_other, step_new, step_kept, step_signed, step_body, step_of, answer_by, logs_by, fresh_by, after, marked_answer, marked_after, marked_fresh}
 use Rattle.fed_inbox.specs.Runs.{comes_first, reply_by, kept_reply}
 use Rattle.fed_inbox.proofs.FoundLogs.{option_cases, found_is, log_at-with_log_same, log_at-with_log_other, put_back}
 
@@ -78,21 +78,21 @@ module _ (checks : Checks) (rooms : List (List ℕ)) (l : LogState) (txn : List 
 
 -- ---- the requests of an inbox
 
-pub record Nothing (s : InboxState) (r : Request) (answer : Answer) (new : InboxState) (fresh : List CheckedEvent) : Type 0 where
+pub record Nothing (s : InboxState) (r : SendRequest) (answer : Answer) (new : InboxState) (fresh : List CheckedEvent) : Type 0 where
   pub refusal : Refusal
   pub first : (comes_first refusal ≡ true) ⊎ (kept_reply s r.origin r.txn ≡ None)
   pub answer_is : answer ≡ refused refusal
   pub new_is : new ≡ s
   pub fresh_is : fresh ≡ []
 
-pub record Repeat (s : InboxState) (r : Request) (answer : Answer) (new : InboxState) (fresh : List CheckedEvent) : Type 0 where
+pub record Repeat (s : InboxState) (r : SendRequest) (answer : Answer) (new : InboxState) (fresh : List CheckedEvent) : Type 0 where
   pub reply : List ℕ
   pub kept : kept_reply s r.origin r.txn ≡ Some reply
   pub answer_is : answer ≡ accepted reply
   pub new_is : new ≡ s
   pub fresh_is : fresh ≡ []
 
-pub record First (checks : Checks) (s : InboxState) (r : Request) (answer : Answer) (new : InboxState) (fresh : List CheckedEvent) : Type 0 where
+pub record First (checks : Checks) (s : InboxState) (r : SendRequest) (answer : Answer) (new : InboxState) (fresh : List CheckedEvent) : Type 0 where
   pub log : LogState
   pub there : log_at r.origin s.logs ≡ Some log
   pub none : finite.get log.replies r.txn ≡ None
@@ -102,13 +102,13 @@ pub record First (checks : Checks) (s : InboxState) (r : Request) (answer : Answ
   pub now : log_at r.origin new.logs ≡ Some (with_taking log r.txn (taking_of checks s.rooms transaction))
   pub fresh_is : fresh ≡ (taking_of checks s.rooms transaction).fresh
 
-abbrev pub RequestCases : Checks → InboxState → Request → Answer → InboxState → List CheckedEvent → Type 0
+abbrev pub RequestCases : Checks → InboxState → SendRequest → Answer → InboxState → List CheckedEvent → Type 0
 RequestCases checks s r answer new fresh = Nothing s r answer new fresh ⊎ (Repeat s r answer new fresh ⊎ First checks s r answer new fresh)
 
 with_logs : (s : InboxState) {ls : List LogState} → ls ≡ s.logs → ◌≡◌ {A = InboxState} (record { own = s.own; rooms = s.rooms; logs = ls }) s
 with_logs s e i = record { own = s.own; rooms = s.rooms; logs = e i }
 
-module _ (checks : Checks) (s : InboxState) (r : Request) where
+module _ (checks : Checks) (s : InboxState) (r : SendRequest) where
   nobody : log_at r.origin s.logs ≡ None → Nothing s r (marked_answer checks s r true) (after checks s r) (marked_fresh checks s r true)
   nobody none = record {
     refusal = ServerNotListed;

@@ -29,7 +29,7 @@ use Rattle.fed_inbox.specs.AnswerParts.{answer_with, fresh_with, taken_by}
 use Rattle.fed_inbox.specs.Inbox.{InboxState, is_of, log_at, with_log, new_log, logs_for, new_inbox}
 use Rattle.fed_inbox.specs.LookUps.{is_taken_from}
 use Rattle.fed_inbox.specs.Taking.{Taking}
-use Rattle.fed_inbox.specs.Answer.{Request, request_by, Step, Steps, answered, names_other, step_new, step_kept, step_signed, step_body, step_of, IsAnswered}
+use Rattle.fed_inbox.specs.Answer.{SendRequest, request_by, Step, Steps, answered, names_other, step_new, step_kept, step_signed, step_body, step_of, IsAnswered}
 use Rattle.fed_inbox.specs.WholeRequest.{Heading, IsReadAs, asked, IsAnsweredWhole, no_memory, not_read, read}
 use Rattle.fed_inbox.specs.IncomingParts.{IsReadFault}
 use Rattle.fed_inbox.specs.Receiver.{ReceiverState, new_receiver, others_of, origin_in, IsInboxOf}
@@ -113,7 +113,7 @@ is_placed names name =
 -- ---- what is taken of a body that is read
 
 module _ (checks : Checks) (s : InboxState) (origin txn body : List ℕ) (signed : Data → Bool) where
-  abbrev request : Request
+  abbrev request : SendRequest
   request = request_by origin txn body signed
 
   stepped_new : (log : LogState) (t : Result Transaction TxnFault) → step_new checks s.rooms log txn t ≡ step_by log txn (comes_to checks s.rooms t)
@@ -262,7 +262,7 @@ pub err_then : {T : Type 0} (P Q : Refusal → Type 0) (x : Result T Refusal) �
 err_then P Q (Ok a) f h = tt
 err_then P Q (Err e) f h = f e h
 
-pub without_memory : (checks : Checks) (s : InboxState) (asks : Request) → IsAnswered checks s asks (refused OutOfMemory) s []
+pub without_memory : (checks : Checks) (s : InboxState) (asks : SendRequest) → IsAnswered checks s asks (refused OutOfMemory) s []
 without_memory checks s asks = record { found = false; answer_is = refl; new_is = refl; fresh_is = refl }
 
 pub whole_without_memory : (checks : Checks) (s : InboxState) (asks : RequestValue) → IsAnsweredWhole checks s asks (refused OutOfMemory) s []

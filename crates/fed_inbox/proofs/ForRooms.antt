@@ -19,8 +19,8 @@ use Rattle.fed_event.specs.Checked.{CheckedEvent, checked_of}
 use Rattle.fed_event.proofs.CheckedFields.{id_kept, room_kept}
 use Rattle.fed_inbox.specs.Inbox.{InboxState}
 use Rattle.fed_inbox.specs.Taking.{first_text, unless, verdict_on, firsts_but, firsts, passing, fresh_of}
-use Rattle.fed_inbox.specs.Answer.{Request, after, marked_answer, marked_after, marked_fresh}
-use Rattle.fed_inbox.specs.Runs.{Asked, fresh_all, IsForRooms}
+use Rattle.fed_inbox.specs.Answer.{SendRequest, after, marked_answer, marked_after, marked_fresh}
+use Rattle.fed_inbox.specs.Runs.{MarkedRequest, fresh_all, IsForRooms}
 use Rattle.fed_inbox.proofs.Cases.{RequestCases, cases}
 
 -- an event has no verdict where it passes all that a verdict can come from
@@ -108,7 +108,7 @@ module _ (checks : Checks) (rooms : List (List ℕ)) where
 
 -- ---- requests
 
-module _ (checks : Checks) (s : InboxState) (r : Request) (found : Bool) where
+module _ (checks : Checks) (s : InboxState) (r : SendRequest) (found : Bool) where
   abbrev Cased : Type 0
   Cased = RequestCases checks s r (marked_answer checks s r found) (marked_after checks s r found) (marked_fresh checks s r found)
 
@@ -134,7 +134,7 @@ module _ (checks : Checks) (s : InboxState) (r : Request) (found : Bool) where
   pub rooms_stay : (marked_after checks s r found).rooms ≡ s.rooms
   rooms_stay = elim found as (λ (b : Bool). (if b then after checks s r else s).rooms ≡ s.rooms) [ true ↦ refl | false ↦ refl ]
 
-pub all_fresh : (checks : Checks) (s : InboxState) (asked : List Asked) → All (IsForRooms checks s.rooms) (fresh_all checks s asked)
+pub all_fresh : (checks : Checks) (s : InboxState) (asked : List MarkedRequest) → All (IsForRooms checks s.rooms) (fresh_all checks s asked)
 all_fresh checks s [] = All-nil (IsForRooms checks s.rooms)
 all_fresh checks s (one ∷ later) =
     let now = marked_after checks s one.0 one.1 in

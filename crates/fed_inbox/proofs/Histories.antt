@@ -13,7 +13,7 @@ use Rattle.fed_inbox.specs.Reply.{Answer, accepted, refused}
 use Rattle.fed_inbox.specs.Log.{LogState}
 use Rattle.fed_inbox.specs.Taking.{taking_of}
 use Rattle.fed_inbox.specs.Inbox.{InboxState, log_at, taken_of, taken_edus_of}
-use Rattle.fed_inbox.specs.Answer.{Request, after, marked_answer, marked_after, marked_fresh, IsAnswered}
+use Rattle.fed_inbox.specs.Answer.{SendRequest, after, marked_answer, marked_after, marked_fresh, IsAnswered}
 use Rattle.fed_inbox.specs.Runs.{kept_reply, IsForRooms, IsRepeatAnswer, Takes}
 use Rattle.fed_inbox.specs.WholeRequest.{Heading, IsReadAs, IsRefused, asked, IsAnsweredWhole, no_memory, not_read, read}
 use Rattle.fed_inbox.specs.History.{Point, IsHistory, begun, one_more, brought, IsFirst, IsAmong, WasAnsweredWhole}
@@ -33,7 +33,7 @@ no_heading refusal h e = absurd (cc e)
 pub of_same : (P : Answer → InboxState → List CheckedEvent → Type 0) (a b : Answer) (n m : InboxState) (f g : List CheckedEvent) → a ≡ b → n ≡ m → f ≡ g → P b m g → P a n f
 of_same P a b n m f g e h k p = subst (λ x. P x n f) (sym e) (subst (λ y. P b y f) (sym h) (subst (λ z. P b m z) (sym k) p))
 
-own_stays : (checks : Checks) (s : InboxState) (q : Request) (found : Bool) → (marked_after checks s q found).own ≡ s.own
+own_stays : (checks : Checks) (s : InboxState) (q : SendRequest) (found : Bool) → (marked_after checks s q found).own ≡ s.own
 own_stays checks s q found = elim found as (λ (b : Bool). (if b then after checks s q else s).own ≡ s.own) [ true ↦ refl | false ↦ refl ]
 
 -- ---- one request

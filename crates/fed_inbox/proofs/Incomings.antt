@@ -4,11 +4,11 @@ use Rattle.std.proofs.Common.{◌≡◌, ◌≢◌, ℕ, List, bytes_eq, not, le
 use Rattle.std.proofs.lemmas.Str.{is_utf8-from_IsUtf8}
 use Rattle.base64.specs.GeneralPurpose.{IsBytes}
 use Rattle.fed_http.specs.Message.{RequestValue}
-use Rattle.fed_http.specs.Signing.{Asked, header_of, request_of}
-use Rattle.fed_http.specs.WrittenHeaders.{header_text}
+use Rattle.fed_http.specs.XMatrixSigning.{SignableJson, header_of, request_of}
+use Rattle.fed_http.specs.XMatrixWriting.{header_text}
 use Rattle.fed_http.specs.XMatrix.{XMatrixValue, IsXMatrix}
 use Rattle.fed_http.proofs.Headers.{same_header}
-use Rattle.fed_http.proofs.WrittenHeaders.{written_is}
+use Rattle.fed_http.proofs.XMatrixTexts.{written_is}
 use Rattle.fed_inbox.specs.declared.refusal.Refusal.{Refusal}
 use Rattle.fed_inbox.specs.SendPath.{txn_of}
 use Rattle.fed_inbox.specs.WholeRequest.{Heading, authorization_of, is_for, HasHeader, IsSending, IsReadAs, no_such_path, other_method, no_header, other_destination, heading}
@@ -84,7 +84,7 @@ one_reading own r _ _ (heading t1 h1 s1 has1 to1) (heading t2 h2 s2 has2 to2) = 
 
 -- ---- signed requests
 
-pub signed_read : (asked : Asked) (key : List ℕ) (sign : List ℕ → List ℕ) (txn : List ℕ) → IsSending (request_of asked key sign) txn → IsUtf8 (header_text (header_of asked key sign))
+pub signed_read : (asked : SignableJson) (key : List ℕ) (sign : List ℕ → List ℕ) (txn : List ℕ) → IsSending (request_of asked key sign) txn → IsUtf8 (header_text (header_of asked key sign))
     → IsBytes (header_of asked key sign).signature → length (header_of asked key sign).signature ≡ 64
     → IsReadAs asked.destination (request_of asked key sign) (Ok (record { txn = txn; header = header_of asked key sign }))
 signed_read asked key sign txn sends utf8 bytes count =

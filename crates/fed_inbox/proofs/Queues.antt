@@ -26,7 +26,7 @@ use Rattle.fed_txn.specs.Transaction.{Transaction, origin_of, at_ms_of, pdus_of,
 use Rattle.fed_txn.specs.Reading.{body_of, transaction_or_fault}
 use Rattle.fed_inbox.specs.Inbox.{InboxState}
 use Rattle.fed_inbox.specs.Taking.{firsts_but, firsts, fresh_of, verdict_on}
-use Rattle.fed_inbox.specs.Answer.{Request, marked_answer, marked_after, marked_fresh}
+use Rattle.fed_inbox.specs.Answer.{SendRequest, marked_answer, marked_after, marked_fresh}
 use Rattle.fed_inbox.specs.Queues.{for_room, for_place, queues_from, queues_after}
 use Rattle.fed_inbox.proofs.FoundLogs.{same_or_not}
 use Rattle.fed_inbox.proofs.Cases.{RequestCases, cases}
@@ -103,7 +103,7 @@ few_fresh checks rooms elements =
     let same = length-map (filter p (firsts elements)) (checked_of checks) in
     omega arith
 
-pub few_for_rooms : (checks : Checks) (s : InboxState) (r : Request) (found : Bool) → length (marked_fresh checks s r found) ≤ 50
+pub few_for_rooms : (checks : Checks) (s : InboxState) (r : SendRequest) (found : Bool) → length (marked_fresh checks s r found) ≤ 50
 few_for_rooms checks s r found = by (cases checks s r found)
   where
     by : RequestCases checks s r (marked_answer checks s r found) (marked_after checks s r found) (marked_fresh checks s r found) → length (marked_fresh checks s r found) ≤ 50

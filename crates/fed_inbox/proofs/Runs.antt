@@ -15,8 +15,8 @@ use Rattle.fed_inbox.specs.Reply.{Answer, accepted, refused}
 use Rattle.fed_inbox.specs.Log.{LogState}
 use Rattle.fed_inbox.specs.Taking.{taking_of}
 use Rattle.fed_inbox.specs.Inbox.{InboxState, log_at, pdus_by, edus_by}
-use Rattle.fed_inbox.specs.Answer.{Request, with_taking, marked_answer, marked_after, marked_fresh}
-use Rattle.fed_inbox.specs.Runs.{Asked, answers, after_all, fresh_all, reply_by, kept_reply, comes_first, WasAnswered, Takes, IsRepeatAnswer}
+use Rattle.fed_inbox.specs.Answer.{SendRequest, with_taking, marked_answer, marked_after, marked_fresh}
+use Rattle.fed_inbox.specs.Runs.{MarkedRequest, answers, after_all, fresh_all, reply_by, kept_reply, comes_first, WasAnswered, Takes, IsRepeatAnswer}
 use Rattle.fed_inbox.proofs.FoundLogs.{same_or_not}
 use Rattle.fed_inbox.proofs.Cases.{First, RequestCases, cases, other_stays}
 
@@ -60,15 +60,15 @@ get-insert_other m k v q apart = finite.get-insert nat_list_cmp_total m k v q �
 module _ (checks : Checks) where
   -- ---- one more request
 
-  pub answers_one_more : (s : InboxState) (asked : List Asked) (one : Asked) → answers checks s (asked ++ one ∷ []) ≡ answers checks s asked ++ marked_answer checks (after_all checks s asked) one.0 one.1 ∷ []
+  pub answers_one_more : (s : InboxState) (asked : List MarkedRequest) (one : MarkedRequest) → answers checks s (asked ++ one ∷ []) ≡ answers checks s asked ++ marked_answer checks (after_all checks s asked) one.0 one.1 ∷ []
   answers_one_more s [] one = refl
   answers_one_more s (a ∷ later) one = ap (λ l. marked_answer checks s a.0 a.1 ∷ l) (answers_one_more (marked_after checks s a.0 a.1) later one)
 
-  pub state_one_more : (s : InboxState) (asked : List Asked) (one : Asked) → after_all checks s (asked ++ one ∷ []) ≡ marked_after checks (after_all checks s asked) one.0 one.1
+  pub state_one_more : (s : InboxState) (asked : List MarkedRequest) (one : MarkedRequest) → after_all checks s (asked ++ one ∷ []) ≡ marked_after checks (after_all checks s asked) one.0 one.1
   state_one_more s [] one = refl
   state_one_more s (a ∷ later) one = state_one_more (marked_after checks s a.0 a.1) later one
 
-  pub fresh_one_more : (s : InboxState) (asked : List Asked) (one : Asked) → fresh_all checks s (asked ++ one ∷ []) ≡ fresh_all checks s asked ++ marked_fresh checks (after_all checks s asked) one.0 one.1
+  pub fresh_one_more : (s : InboxState) (asked : List MarkedRequest) (one : MarkedRequest) → fresh_all checks s (asked ++ one ∷ []) ≡ fresh_all checks s asked ++ marked_fresh checks (after_all checks s asked) one.0 one.1
   fresh_one_more s [] one = append-nil (marked_fresh checks s one.0 one.1)
   fresh_one_more s (a ∷ later) one =
       ap (λ l. marked_fresh checks s a.0 a.1 ++ l) (fresh_one_more (marked_after checks s a.0 a.1) later one)
@@ -82,7 +82,7 @@ module _ (checks : Checks) where
     by_part None = []
     by_part (Some l) = part l
 
-    one_grows : (s : InboxState) (one : Asked) (o : List ℕ) → (more : List (List ℕ)) × (by_part (log_at o (marked_after checks s one.0 one.1).logs) ≡ by_part (log_at o s.logs) ++ more)
+    one_grows : (s : InboxState) (one : MarkedRequest) (o : List ℕ) → (more : List (List ℕ)) × (by_part (log_at o (marked_after checks s one.0 one.1).logs) ≡ by_part (log_at o s.logs) ++ more)
     one_grows s (r, found) o = by (same_or_not o r.origin) (cases checks s r found)
       where
         new : InboxState
@@ -104,7 +104,7 @@ module _ (checks : Checks) where
     joined : (a b d first rest : List (List ℕ)) → b ≡ a ++ first → d ≡ b ++ rest → d ≡ a ++ (first ++ rest)
     joined a b d first rest e f = f ∙ ap (λ t. t ++ rest) e ∙ append_assoc a first rest
 
-    pub all_grow : (s : InboxState) (asked : List Asked) (o : List ℕ) → (more : List (List ℕ)) × (by_part (log_at o (after_all checks s asked).logs) ≡ by_part (log_at o s.logs) ++ more)
+    pub all_grow : (s : InboxState) (asked : List MarkedRequest) (o : List ℕ) → (more : List (List ℕ)) × (by_part (log_at o (after_all checks s asked).logs) ≡ by_part (log_at o s.logs) ++ more)
     all_grow s [] o = ([], sym (append-nil (by_part (log_at o s.logs))))
     all_grow s (one ∷ later) o =
         let first = one_grows s one o in
@@ -114,23 +114,23 @@ module _ (checks : Checks) where
   -- ---- kept replies
 
   -- what is kept after a first 200
-  kept_now : (s : InboxState) (r : Request) (answer : Answer) (new : InboxState) (fresh : List CheckedEvent) (first : First checks s r answer new fresh) (q : List ℕ)
+  kept_now : (s : InboxState) (r : SendRequest) (answer : Answer) (new : InboxState) (fresh : List CheckedEvent) (first : First checks s r answer new fresh) (q : List ℕ)
       → kept_reply new r.origin q ≡ finite.get (finite.insert first.log.replies r.txn (taking_of checks s.rooms first.transaction).reply) q
   kept_now s r answer new fresh first q = ap (λ l. reply_by l q) first.now
 
-  kept_before : (s : InboxState) (r : Request) (answer : Answer) (new : InboxState) (fresh : List CheckedEvent) (first : First checks s r answer new fresh) (q : List ℕ)
+  kept_before : (s : InboxState) (r : SendRequest) (answer : Answer) (new : InboxState) (fresh : List CheckedEvent) (first : First checks s r answer new fresh) (q : List ℕ)
       → kept_reply s r.origin q ≡ finite.get first.log.replies q
   kept_before s r answer new fresh first q = ap (λ l. reply_by l q) first.there
 
   -- a number whose reply is not new
-  kept_same : (s : InboxState) (r : Request) (answer : Answer) (new : InboxState) (fresh : List CheckedEvent) (first : First checks s r answer new fresh) (q : List ℕ) → q ≢ r.txn
+  kept_same : (s : InboxState) (r : SendRequest) (answer : Answer) (new : InboxState) (fresh : List CheckedEvent) (first : First checks s r answer new fresh) (q : List ℕ) → q ≢ r.txn
       → kept_reply new r.origin q ≡ kept_reply s r.origin q
   kept_same s r answer new fresh first q apart =
       kept_now s r answer new fresh first q
       ∙ get-insert_other first.log.replies r.txn (taking_of checks s.rooms first.transaction).reply q apart
       ∙ sym (kept_before s r answer new fresh first q)
 
-  one_keeps : (s : InboxState) (one : Asked) (o q reply : List ℕ) → kept_reply s o q ≡ Some reply → kept_reply (marked_after checks s one.0 one.1) o q ≡ Some reply
+  one_keeps : (s : InboxState) (one : MarkedRequest) (o q reply : List ℕ) → kept_reply s o q ≡ Some reply → kept_reply (marked_after checks s one.0 one.1) o q ≡ Some reply
   one_keeps s (r, found) o q reply kept = by (same_or_not o r.origin) (cases checks s r found) (same_or_not q r.txn)
     where
       by : (o ≡ r.origin) ⊎ (o ≢ r.origin) → RequestCases checks s r (marked_answer checks s r found) (marked_after checks s r found) (marked_fresh checks s r found)
@@ -144,11 +144,11 @@ module _ (checks : Checks) where
       by (inl is) (inr (inr first)) (inr other) =
           ap (λ p. kept_reply (marked_after checks s r found) p q) is ∙ kept_same s r _ _ _ first q other ∙ ap (λ p. kept_reply s p q) (sym is) ∙ kept
 
-  pub all_keep : (s : InboxState) (asked : List Asked) (o q reply : List ℕ) → kept_reply s o q ≡ Some reply → kept_reply (after_all checks s asked) o q ≡ Some reply
+  pub all_keep : (s : InboxState) (asked : List MarkedRequest) (o q reply : List ℕ) → kept_reply s o q ≡ Some reply → kept_reply (after_all checks s asked) o q ≡ Some reply
   all_keep s [] o q reply kept = kept
   all_keep s (one ∷ later) o q reply kept = all_keep (marked_after checks s one.0 one.1) later o q reply (one_keeps s one o q reply kept)
 
-  module _ (s : InboxState) (r : Request) (found : Bool) where
+  module _ (s : InboxState) (r : SendRequest) (found : Bool) where
     abbrev answer : Answer
     answer = marked_answer checks s r found
 
@@ -233,7 +233,7 @@ module _ (checks : Checks) where
             ∙ ap (λ p. kept_reply new p r.txn) (sym is) ∙ ap (kept_reply new o) (sym same) ∙ kept in
             (sym is, sym same, first.answer_is ∙ ap accepted (one_reply mine reply here))
 
-  pub kept_was_answered : (s : InboxState) (asked : List Asked) (o q reply : List ℕ) → kept_reply s o q ≡ None → kept_reply (after_all checks s asked) o q ≡ Some reply
+  pub kept_was_answered : (s : InboxState) (asked : List MarkedRequest) (o q reply : List ℕ) → kept_reply s o q ≡ None → kept_reply (after_all checks s asked) o q ≡ Some reply
       → WasAnswered checks s asked o q (accepted reply)
   kept_was_answered s [] o q reply none kept = absurd (not_both _ reply none kept)
   kept_was_answered s (one ∷ later) o q reply none kept = by (kept_reply now o q) refl (λ still. kept_was_answered now later o q reply still kept)

@@ -15,7 +15,7 @@ use Rattle.fed_inbox.specs.InboxParts.{state_of}
 use Rattle.fed_event.specs.Keys.{Checks}
 use Rattle.fed_event.specs.Checked.{CheckedEvent}
 use Rattle.fed_inbox.specs.declared.log.Accepted.{Accepted}
-use Rattle.fed_inbox.specs.Answer.{Request, Step, Steps, step_body, step_of, answer_by, logs_by, fresh_by, IsAnswered}
+use Rattle.fed_inbox.specs.Answer.{SendRequest, Step, Steps, step_body, step_of, answer_by, logs_by, fresh_by, IsAnswered}
 use Rattle.fed_inbox.specs.AnswerParts.{answer_with, fresh_with}
 use Rattle.fed_inbox.specs.Inbox.{InboxState, log_at, with_log}
 use Rattle.std.specs.List.{position}
@@ -69,7 +69,7 @@ module _ (checks : Checks) (rooms : List (List ℕ)) where
 same_inbox : {o : List ℕ} {rooms : List (List ℕ)} {ls ms : List LogState} → ls ≡ ms → ◌≡◌ {A = InboxState} (record { own = o; rooms = rooms; logs = ls }) (record { own = o; rooms = rooms; logs = ms })
 same_inbox {o} {rooms} e i = record { own = o; rooms = rooms; logs = e i }
 
-module _ (checks : Checks) (s : InboxState) (request : Request) where
+module _ (checks : Checks) (s : InboxState) (request : SendRequest) where
   -- the log of the origin is answered, and is put in its place
   pub answered_in : (old : LogState) (answer : Answer) (new : LogState) (fresh : List CheckedEvent) → log_at request.origin s.logs ≡ Some old → Steps old (step_of checks s.rooms old request) answer new fresh
       → IsAnswered checks s request answer (record { own = s.own; rooms = s.rooms; logs = with_log request.origin s.logs new }) fresh
@@ -107,7 +107,7 @@ module _ (checks : Checks) (s : InboxState) (request : Request) where
   }
 
 -- what the log of the origin and the store come to
-pub answered_at : (checks : Checks) (own : List ℕ) (rooms : List (List ℕ)) (kept kept' : KeptReplies) (ls : List TakenFrom) (request : Request) (i : ℕ) (old new : TakenFrom) (answer : Answer) (fresh : List CheckedEvent)
+pub answered_at : (checks : Checks) (own : List ℕ) (rooms : List (List ℕ)) (kept kept' : KeptReplies) (ls : List TakenFrom) (request : SendRequest) (i : ℕ) (old new : TakenFrom) (answer : Answer) (fresh : List CheckedEvent)
     → AreByOrigin ls → Some i ≡ position (is_from request.origin) ls → i < length ls → old ≡ get_or ls i old → KeepsOthers old.origin kept kept'
     → Steps (with_replies kept old) (step_of checks rooms (with_replies kept old) request) answer (with_replies kept' new) fresh
     → IsAnswered checks (state_of own rooms kept ls) request answer (state_of own rooms kept' (set ls i new)) fresh

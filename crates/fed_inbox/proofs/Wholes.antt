@@ -8,14 +8,14 @@ use Rattle.fed_inbox.specs.declared.refusal.Refusal.{Refusal}
 use Rattle.fed_inbox.specs.declared.refusal.Refusal.TheVariants.{OutOfMemory}
 use Rattle.fed_inbox.specs.Reply.{Answer}
 use Rattle.fed_inbox.specs.Inbox.{InboxState}
-use Rattle.fed_inbox.specs.Answer.{Request, IsAnswered}
+use Rattle.fed_inbox.specs.Answer.{SendRequest, IsAnswered}
 use Rattle.fed_inbox.specs.AnswerParts.{answer_with, fresh_with}
 use Rattle.fed_inbox.specs.WholeRequest.{IsRefused, IsAnsweredWhole, no_memory, not_read}
 use Rattle.fed_inbox.specs.IncomingParts.{IsReadFault}
 use Rattle.fed_inbox.proofs.Steps.{answer_of_err, fresh_of_err}
 
 -- want of memory answers any request
-pub untried : (checks : Checks) (s : InboxState) (request : Request) (x : Result Accepted Refusal) → IsErrAnd x (λ y. y ≡ OutOfMemory)
+pub untried : (checks : Checks) (s : InboxState) (request : SendRequest) (x : Result Accepted Refusal) → IsErrAnd x (λ y. y ≡ OutOfMemory)
     → IsAnswered checks s request (answer_with x) s (fresh_with x)
 untried checks s request x h = record { found = false; answer_is = answer_of_err x OutOfMemory h; new_is = refl; fresh_is = fresh_of_err x OutOfMemory h }
 

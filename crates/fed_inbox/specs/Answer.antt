@@ -17,7 +17,7 @@ use Rattle.fed_inbox.specs.Taking.{Taking, taking_of}
 use Rattle.fed_inbox.specs.Inbox.{InboxState, log_at, with_log}
 
 -- a request of an origin, and whether it is signed by the origin where its body is of a value
-pub record Request : Type 0 where
+pub record SendRequest : Type 0 where
   pub origin : List ℕ
   pub txn : List ℕ
   pub body : List ℕ
@@ -70,18 +70,18 @@ module _ (checks : Checks) (rooms : List (List ℕ)) where
   step_body log txn is_signed (Ok body) = if is_signed body then step_signed log txn body else answered log (refused BadSignature)
 
   -- the step of a request of the log's origin
-  abbrev pub step_of : LogState → Request → Step
+  abbrev pub step_of : LogState → SendRequest → Step
   step_of log request = step_body log request.txn request.is_signed (body_of request.body)
 
-  abbrev pub answer_by : Option LogState → Request → Answer
+  abbrev pub answer_by : Option LogState → SendRequest → Answer
   answer_by None request = refused ServerNotListed
   answer_by (Some log) request = (step_of log request).answer
 
-  abbrev pub logs_by : List LogState → Option LogState → Request → List LogState
+  abbrev pub logs_by : List LogState → Option LogState → SendRequest → List LogState
   logs_by logs None request = logs
   logs_by logs (Some log) request = with_log request.origin logs (step_of log request).log
 
-  abbrev pub fresh_by : Option LogState → Request → List CheckedEvent
+  abbrev pub fresh_by : Option LogState → SendRequest → List CheckedEvent
   fresh_by None request = []
   fresh_by (Some log) request = (step_of log request).fresh
 
@@ -89,11 +89,11 @@ module _ (checks : Checks) (rooms : List (List ℕ)) where
 
 module _ (checks : Checks) where
   -- the answer to a request, where memory is found
-  abbrev pub answer_to : InboxState → Request → Answer
+  abbrev pub answer_to : InboxState → SendRequest → Answer
   answer_to inbox request = answer_by checks inbox.rooms (log_at request.origin inbox.logs) request
 
   -- the state after it
-  abbrev pub after : InboxState → Request → InboxState
+  abbrev pub after : InboxState → SendRequest → InboxState
   after inbox request = record {
     own = inbox.own;
     rooms = inbox.rooms;
@@ -101,31 +101,31 @@ module _ (checks : Checks) where
   }
 
   -- the events that it brings for the rooms: those of a transaction that is taken, and else none
-  abbrev pub fresh_to : InboxState → Request → List CheckedEvent
+  abbrev pub fresh_to : InboxState → SendRequest → List CheckedEvent
   fresh_to inbox request = fresh_by checks inbox.rooms (log_at request.origin inbox.logs) request
 
   -- the answer and the state where memory is found, and where it is not: then the answer says so, and nothing changes
-  abbrev pub marked_answer : InboxState → Request → Bool → Answer
+  abbrev pub marked_answer : InboxState → SendRequest → Bool → Answer
   marked_answer inbox request found = if found then answer_to inbox request else refused OutOfMemory
 
-  abbrev pub marked_after : InboxState → Request → Bool → InboxState
+  abbrev pub marked_after : InboxState → SendRequest → Bool → InboxState
   marked_after inbox request found = if found then after inbox request else inbox
 
-  abbrev pub marked_fresh : InboxState → Request → Bool → List CheckedEvent
+  abbrev pub marked_fresh : InboxState → SendRequest → Bool → List CheckedEvent
   marked_fresh inbox request found = if found then fresh_to inbox request else []
 
   -- the request was answered so, left the inbox so, and brought this for the rooms
-  pub record IsAnswered (old : InboxState) (request : Request) (answer : Answer) (new : InboxState) (fresh : List CheckedEvent) : Type 0 where
+  pub record IsAnswered (old : InboxState) (request : SendRequest) (answer : Answer) (new : InboxState) (fresh : List CheckedEvent) : Type 0 where
     pub found : Bool
     pub answer_is : answer ≡ marked_answer old request found
     pub new_is : new ≡ marked_after old request found
     pub fresh_is : fresh ≡ marked_fresh old request found
 
-abbrev pub request_by : List ℕ → List ℕ → List ℕ → (Data → Bool) → Request
+abbrev pub request_by : List ℕ → List ℕ → List ℕ → (Data → Bool) → SendRequest
 request_by origin txn body is_signed = record { origin = origin; txn = txn; body = body; is_signed = is_signed }
 
 -- a request whose origin is known by other means than a signature
-abbrev pub request_of : List ℕ → List ℕ → List ℕ → Request
+abbrev pub request_of : List ℕ → List ℕ → List ℕ → SendRequest
 request_of origin txn body = request_by origin txn body (λ _. true)
 
 -- a log answered by a step, or for want of memory, and then it stays

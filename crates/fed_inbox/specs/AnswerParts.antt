@@ -6,7 +6,7 @@ use Rattle.fed_inbox.specs.declared.log.Accepted.{Accepted}
 use Rattle.fed_inbox.specs.declared.refusal.Refusal.{Refusal}
 use Rattle.fed_inbox.specs.Reply.{Answer, accepted, refused}
 use Rattle.fed_inbox.specs.Inbox.{InboxState}
-use Rattle.fed_inbox.specs.Answer.{Request, IsAnswered}
+use Rattle.fed_inbox.specs.Answer.{SendRequest, IsAnswered}
 
 -- the reply, and the events for the rooms
 abbrev pub taken_by : Accepted → List ℕ × List CheckedEvent
@@ -22,5 +22,5 @@ fresh_with (Ok a) = a.fresh.items
 fresh_with (Err refusal) = []
 
 module _ (checks : Checks) where
-  abbrev pub IsTried : InboxState → Request → Result Accepted Refusal → InboxState → Type 0
+  abbrev pub IsTried : InboxState → SendRequest → Result Accepted Refusal → InboxState → Type 0
   IsTried old request result new = IsAnswered checks old request (answer_with result) new (fresh_with result)

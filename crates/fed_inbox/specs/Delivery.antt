@@ -15,7 +15,7 @@ use Rattle.fed_inbox.specs.Reply.{Answer, accepted, refused}
 use Rattle.fed_inbox.specs.Log.{LogState}
 use Rattle.fed_inbox.specs.Taking.{Taking, taking_of}
 use Rattle.fed_inbox.specs.Inbox.{InboxState, log_at, with_log}
-use Rattle.fed_inbox.specs.Answer.{Request, Step, Steps, answered, taken, IsAnswered}
+use Rattle.fed_inbox.specs.Answer.{SendRequest, Step, Steps, answered, taken, IsAnswered}
 use Rattle.fed_inbox.specs.WholeRequest.{IsRefused, IsAnsweredWhole}
 use Rattle.fed_inbox.specs.Receiver.{ReceiverState, IsInboxOf}
 
@@ -75,9 +75,9 @@ module _ (checks : Checks) (r : ReceiverState) where
   Refuses request refusal = (old : InboxState) → IsInboxOf r old → IsAnsweredWhole checks old request (refused refusal) old []
 
   -- the same of a request whose origin is known by other means than a signature, or by the means that it says
-  abbrev pub SettlesBody : Request → JudgedState → Type 0
+  abbrev pub SettlesBody : SendRequest → JudgedState → Type 0
   SettlesBody request judged = (old : InboxState) → IsInboxOf r old → (answer : Answer) (new : InboxState) (fresh : List CheckedEvent) → IsTaken old judged answer new fresh
       → IsAnswered checks old request answer new fresh
 
-  abbrev pub RefusesBody : Request → Refusal → Type 0
+  abbrev pub RefusesBody : SendRequest → Refusal → Type 0
   RefusesBody request refusal = (old : InboxState) → IsInboxOf r old → IsAnswered checks old request (refused refusal) old []

@@ -14,11 +14,11 @@ use Rattle.fed_inbox.specs.Reply.{Answer, accepted, refused}
 use Rattle.fed_inbox.specs.Log.{LogState}
 use Rattle.fed_inbox.specs.Taking.{taking_of}
 use Rattle.fed_inbox.specs.Inbox.{InboxState, log_at, taken_of, taken_edus_of}
-use Rattle.fed_inbox.specs.Answer.{Request, marked_answer, marked_after, marked_fresh}
+use Rattle.fed_inbox.specs.Answer.{SendRequest, marked_answer, marked_after, marked_fresh}
 
 -- a request, and whether memory was found for it
-abbrev pub Asked : Type 0
-Asked = Request × Bool
+abbrev pub MarkedRequest : Type 0
+MarkedRequest = SendRequest × Bool
 
 abbrev pub reply_by : Option LogState → List ℕ → Option (List ℕ)
 reply_by None txn = None
@@ -32,32 +32,32 @@ kept_reply inbox origin txn = reply_by (log_at origin inbox.logs) txn
 
 module _ (checks : Checks) where
   -- the answers, in order
-  abbrev pub answers : InboxState → List Asked → List Answer
+  abbrev pub answers : InboxState → List MarkedRequest → List Answer
   answers inbox [] = []
   answers inbox (one ∷ later) = marked_answer checks inbox one.0 one.1 ∷ answers (marked_after checks inbox one.0 one.1) later
 
   -- the state after them
-  abbrev pub after_all : InboxState → List Asked → InboxState
+  abbrev pub after_all : InboxState → List MarkedRequest → InboxState
   after_all inbox [] = inbox
   after_all inbox (one ∷ later) = after_all (marked_after checks inbox one.0 one.1) later
 
   -- the events that they bring for the rooms, in order
-  abbrev pub fresh_all : InboxState → List Asked → List CheckedEvent
+  abbrev pub fresh_all : InboxState → List MarkedRequest → List CheckedEvent
   fresh_all inbox [] = []
   fresh_all inbox (one ∷ later) = marked_fresh checks inbox one.0 one.1 ++ fresh_all (marked_after checks inbox one.0 one.1) later
 
   -- some request among these, of this origin and number, was answered so
-  pub record WasAnswered (inbox : InboxState) (asked : List Asked) (origin txn : List ℕ) (answer : Answer) : Type 0 where
-    pub earlier : List Asked
-    pub one : Asked
-    pub later : List Asked
+  pub record WasAnswered (inbox : InboxState) (asked : List MarkedRequest) (origin txn : List ℕ) (answer : Answer) : Type 0 where
+    pub earlier : List MarkedRequest
+    pub one : MarkedRequest
+    pub later : List MarkedRequest
     pub among : asked ≡ earlier ++ one ∷ later
     pub origin_is : one.0.origin ≡ origin
     pub txn_is : one.0.txn ≡ txn
     pub answer_is : marked_answer checks (after_all inbox earlier) one.0 one.1 ≡ answer
 
   -- a request's first 200: its body is a transaction, and all that this brings is taken
-  pub record Takes (inbox : InboxState) (request : Request) (found : Bool) : Type 0 where
+  pub record Takes (inbox : InboxState) (request : SendRequest) (found : Bool) : Type 0 where
     pub transaction : Transaction
     pub body : read_of request.body ≡ Ok transaction
     pub answer : marked_answer checks inbox request found ≡ accepted (taking_of checks inbox.rooms transaction).reply

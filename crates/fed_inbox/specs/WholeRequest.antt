@@ -5,13 +5,13 @@ use Rattle.fed_event.specs.Keys.{Checks}
 use Rattle.fed_event.specs.Checked.{CheckedEvent}
 use Rattle.fed_http.specs.Framing.{values_of, only_of, if_text}
 use Rattle.fed_http.specs.Message.{RequestValue}
-use Rattle.fed_http.specs.Signing.{signed_text}
+use Rattle.fed_http.specs.XMatrixSigning.{signed_text}
 use Rattle.fed_http.specs.XMatrix.{XMatrixValue, IsXMatrix}
 use Rattle.fed_inbox.specs.declared.refusal.Refusal.{Refusal}
 use Rattle.fed_inbox.specs.declared.refusal.Refusal.TheVariants.{NoSuchPath, MethodNotAllowed, BadAuthorization, WrongDestination, OutOfMemory}
 use Rattle.fed_inbox.specs.Reply.{Answer, refused}
 use Rattle.fed_inbox.specs.Inbox.{InboxState}
-use Rattle.fed_inbox.specs.Answer.{Request, request_by, IsAnswered}
+use Rattle.fed_inbox.specs.Answer.{SendRequest, request_by, IsAnswered}
 use Rattle.fed_inbox.specs.SendPath.{txn_of}
 
 -- what a request says before its body is read: the number of the transaction, and the sender with a signature
@@ -52,7 +52,7 @@ is_signed_by checks own r header content =
     checks header.origin header.key (signed_text (record { method = r.method; target = r.target; origin = header.origin; destination = own; content = content })) header.signature
 
 -- what the server `own` is asked
-abbrev pub asked : Checks → List ℕ → RequestValue → Heading → Request
+abbrev pub asked : Checks → List ℕ → RequestValue → Heading → SendRequest
 asked checks own r read = request_by read.header.origin read.txn r.body (is_signed_by checks own r read.header)
 
 -- the answer is this refusal, and nothing is taken or kept

@@ -12,18 +12,18 @@ ghost use Rattle.fed_inbox.specs.Inbox.{InboxState, new_inbox, log_at, taken_of,
 ghost use Rattle.fed_inbox.specs.LookUps.{log_of_new, reply_of_new, has_id};
 ghost use Rattle.fed_inbox.specs.Taking.{verdict_on, verdicts_on};
 ghost use Rattle.fed_inbox.specs.Queues.{for_room, for_place, queues_after};
-ghost use Rattle.fed_inbox.specs.Answer.{Request, marked_answer, marked_after, marked_fresh};
+ghost use Rattle.fed_inbox.specs.Answer.{SendRequest, marked_answer, marked_after, marked_fresh};
 ghost use Rattle.base64.specs.GeneralPurpose.{IsBytes};
 ghost use Rattle.fed_http.specs.Message.{RequestValue};
-ghost use Rattle.fed_http.specs.Signing.{Asked as Sent, header_of, request_of};
-ghost use Rattle.fed_http.specs.WrittenHeaders.{header_text};
+ghost use Rattle.fed_http.specs.XMatrixSigning.{SignableJson, header_of, request_of};
+ghost use Rattle.fed_http.specs.XMatrixWriting.{header_text};
 ghost use Rattle.fed_inbox.specs.Reply.{Answer, accepted};
 ghost use Rattle.fed_inbox.specs.WholeRequest.{Heading, IsReadAs, IsSending, IsAnsweredWhole, is_signed_by};
 ghost use Rattle.fed_inbox.specs.History.{Point, IsHistory, IsAmong, IsFirst, WasAnsweredWhole, brought};
 ghost use Rattle.fed_inbox.specs.declared.refusal.Refusal.{Refusal};
 ghost use Rattle.fed_inbox.specs.Receiver.{ReceiverState, IsInboxOf, new_receiver};
 ghost use Rattle.fed_inbox.specs.Delivery.{JudgedState, IsTaken};
-ghost use Rattle.fed_inbox.specs.Runs.{Asked, answers, after_all, fresh_all, kept_reply, WasAnswered, Takes, IsForRooms, IsRepeatAnswer};
+ghost use Rattle.fed_inbox.specs.Runs.{MarkedRequest, answers, after_all, fresh_all, kept_reply, WasAnswered, Takes, IsForRooms, IsRepeatAnswer};
 
 use fed_event::Keys;
 
@@ -49,81 +49,81 @@ pub fn the_first_of_an_id_decides()
 
 /// What one more request at the end of a list of requests adds to their answers, to their state and to what they bring for the rooms.
 pub fn what_one_more_request_adds()
-    ensures answer { (checks : Checks) (inbox : InboxState) (asked : List Asked) (one : Asked)
+    ensures answer { (checks : Checks) (inbox : InboxState) (asked : List MarkedRequest) (one : MarkedRequest)
         → answers checks inbox (asked ++ one ∷ []) ≡ answers checks inbox asked ++ marked_answer checks (after_all checks inbox asked) one.0 one.1 ∷ [] }
-    ensures state { (checks : Checks) (inbox : InboxState) (asked : List Asked) (one : Asked)
+    ensures state { (checks : Checks) (inbox : InboxState) (asked : List MarkedRequest) (one : MarkedRequest)
         → after_all checks inbox (asked ++ one ∷ []) ≡ marked_after checks (after_all checks inbox asked) one.0 one.1 }
-    ensures fresh { (checks : Checks) (inbox : InboxState) (asked : List Asked) (one : Asked)
+    ensures fresh { (checks : Checks) (inbox : InboxState) (asked : List MarkedRequest) (one : MarkedRequest)
         → fresh_all checks inbox (asked ++ one ∷ []) ≡ fresh_all checks inbox asked ++ marked_fresh checks (after_all checks inbox asked) one.0 one.1 }
 {}
 
 /// A kept reply stays, whatever comes after it.
 pub fn kept_replies_stay()
-    ensures { (checks : Checks) (inbox : InboxState) (asked : List Asked) (origin txn reply : List ℕ)
+    ensures { (checks : Checks) (inbox : InboxState) (asked : List MarkedRequest) (origin txn reply : List ℕ)
         → kept_reply inbox origin txn ≡ Some reply
         → kept_reply (after_all checks inbox asked) origin txn ≡ Some reply }
 {}
 
 /// What was taken from an origin only grows at its end.
 pub fn taken_grows()
-    ensures pdus { (checks : Checks) (inbox : InboxState) (asked : List Asked) (origin : List ℕ)
+    ensures pdus { (checks : Checks) (inbox : InboxState) (asked : List MarkedRequest) (origin : List ℕ)
         → (more : List (List ℕ)) × (taken_of (after_all checks inbox asked) origin ≡ taken_of inbox origin ++ more) }
-    ensures edus { (checks : Checks) (inbox : InboxState) (asked : List Asked) (origin : List ℕ)
+    ensures edus { (checks : Checks) (inbox : InboxState) (asked : List MarkedRequest) (origin : List ℕ)
         → (more : List (List ℕ)) × (taken_edus_of (after_all checks inbox asked) origin ≡ taken_edus_of inbox origin ++ more) }
 {}
 
 /// A request of one origin changes neither what was taken from another nor its kept replies.
 pub fn origins_are_apart()
-    ensures pdus { (checks : Checks) (inbox : InboxState) (request : Request) (found : Bool) (other : List ℕ) → other ≢ request.origin
+    ensures pdus { (checks : Checks) (inbox : InboxState) (request : SendRequest) (found : Bool) (other : List ℕ) → other ≢ request.origin
         → taken_of (marked_after checks inbox request found) other ≡ taken_of inbox other }
-    ensures edus { (checks : Checks) (inbox : InboxState) (request : Request) (found : Bool) (other : List ℕ) → other ≢ request.origin
+    ensures edus { (checks : Checks) (inbox : InboxState) (request : SendRequest) (found : Bool) (other : List ℕ) → other ≢ request.origin
         → taken_edus_of (marked_after checks inbox request found) other ≡ taken_edus_of inbox other }
-    ensures replies { (checks : Checks) (inbox : InboxState) (request : Request) (found : Bool) (other txn : List ℕ) → other ≢ request.origin
+    ensures replies { (checks : Checks) (inbox : InboxState) (request : SendRequest) (found : Bool) (other txn : List ℕ) → other ≢ request.origin
         → kept_reply (marked_after checks inbox request found) other txn ≡ kept_reply inbox other txn }
 {}
 
 /// The body of a 200 is the reply that is kept from then on. Where none was kept before, all that the body brings is taken.
 pub fn a_200_is_kept()
-    ensures kept { (checks : Checks) (inbox : InboxState) (request : Request) (found : Bool)
+    ensures kept { (checks : Checks) (inbox : InboxState) (request : SendRequest) (found : Bool)
         → (marked_answer checks inbox request found).status ≡ 200
         → kept_reply (marked_after checks inbox request found) request.origin request.txn ≡ Some (marked_answer checks inbox request found).body }
-    ensures taken { (checks : Checks) (inbox : InboxState) (request : Request) (found : Bool)
+    ensures taken { (checks : Checks) (inbox : InboxState) (request : SendRequest) (found : Bool)
         → (marked_answer checks inbox request found).status ≡ 200 → kept_reply inbox request.origin request.txn ≡ None
         → Takes checks inbox request found }
 {}
 
 /// A reply that is kept after some requests, and was not before them, was the body of a 200 to one of them.
 pub fn what_is_kept_was_answered()
-    ensures { (checks : Checks) (inbox : InboxState) (asked : List Asked) (origin txn reply : List ℕ)
+    ensures { (checks : Checks) (inbox : InboxState) (asked : List MarkedRequest) (origin txn reply : List ℕ)
         → kept_reply inbox origin txn ≡ None → kept_reply (after_all checks inbox asked) origin txn ≡ Some reply
         → WasAnswered checks inbox asked origin txn (accepted reply) }
 {}
 
 /// A transaction that a reply is kept for gets it, or a refusal that is told before a kept reply is looked for, or 500.
 pub fn repeats_get_the_kept_reply()
-    ensures { (checks : Checks) (inbox : InboxState) (request : Request) (found : Bool) (reply : List ℕ)
+    ensures { (checks : Checks) (inbox : InboxState) (request : SendRequest) (found : Bool) (reply : List ℕ)
         → kept_reply inbox request.origin request.txn ≡ Some reply
         → IsRepeatAnswer reply (marked_answer checks inbox request found) }
 {}
 
 /// Nothing but a first 200 changes the state or brings anything for the rooms: no refusal does, and no repeat.
 pub fn only_a_first_200_changes()
-    ensures refused { (checks : Checks) (inbox : InboxState) (request : Request) (found : Bool)
+    ensures refused { (checks : Checks) (inbox : InboxState) (request : SendRequest) (found : Bool)
         → (marked_answer checks inbox request found).status ≢ 200 → marked_after checks inbox request found ≡ inbox }
-    ensures refused_brings_nothing { (checks : Checks) (inbox : InboxState) (request : Request) (found : Bool)
+    ensures refused_brings_nothing { (checks : Checks) (inbox : InboxState) (request : SendRequest) (found : Bool)
         → (marked_answer checks inbox request found).status ≢ 200 → marked_fresh checks inbox request found ≡ [] }
-    ensures repeat { (checks : Checks) (inbox : InboxState) (request : Request) (found : Bool) (reply : List ℕ)
+    ensures repeat { (checks : Checks) (inbox : InboxState) (request : SendRequest) (found : Bool) (reply : List ℕ)
         → kept_reply inbox request.origin request.txn ≡ Some reply → marked_after checks inbox request found ≡ inbox }
-    ensures repeat_brings_nothing { (checks : Checks) (inbox : InboxState) (request : Request) (found : Bool) (reply : List ℕ)
+    ensures repeat_brings_nothing { (checks : Checks) (inbox : InboxState) (request : SendRequest) (found : Bool) (reply : List ℕ)
         → kept_reply inbox request.origin request.txn ≡ Some reply → marked_fresh checks inbox request found ≡ [] }
 {}
 
 /// What requests bring for the rooms is checked under the keys, signed by its sender's server, and of a room that is known; of one request
 /// no two events have one id.
 pub fn what_the_rooms_get()
-    ensures all { (checks : Checks) (inbox : InboxState) (asked : List Asked)
+    ensures all { (checks : Checks) (inbox : InboxState) (asked : List MarkedRequest)
         → All (IsForRooms checks inbox.rooms) (fresh_all checks inbox asked) }
-    ensures apart { (checks : Checks) (inbox : InboxState) (request : Request) (found : Bool)
+    ensures apart { (checks : Checks) (inbox : InboxState) (request : SendRequest) (found : Bool)
         → AllPairs (λ one other. event_id_of one.event ≢ event_id_of other.event) (marked_fresh checks inbox request found) }
 {}
 
@@ -136,17 +136,17 @@ pub fn one_reading()
 /// A request that a server sends to this one, signed as servers sign, is read as its transaction with its header, and under the law of `Keys`
 /// its signature checks.
 pub fn signed_requests_pass<K: Keys>()
-    ensures read { (sent : Sent) (key : List ℕ) (sign : List ℕ → List ℕ) (txn : List ℕ) → let h = header_of sent key sign in
+    ensures read { (sent : SignableJson) (key : List ℕ) (sign : List ℕ → List ℕ) (txn : List ℕ) → let h = header_of sent key sign in
         IsSending (request_of sent key sign) txn → IsUtf8 (header_text h) → IsBytes h.signature → length h.signature ≡ 64
         → IsReadAs sent.destination (request_of sent key sign) (Ok (record { txn = txn; header = h })) }
-    ensures signed { (keys : K) (sent : Sent) → sent.origin ≡ K.own_name keys → let h = header_of sent (K.own_key keys) (K.own_signature keys) in
+    ensures signed { (keys : K) (sent : SignableJson) → sent.origin ≡ K.own_name keys → let h = header_of sent (K.own_key keys) (K.own_signature keys) in
         is_signed_by (K.checks keys) sent.destination (request_of sent (K.own_key keys) (K.own_signature keys)) h sent.content ≡ true }
 {}
 
 /// A request brings at most as many events for the rooms as a transaction may have. The queue of the room at each place gets those for the
 /// place, in their order, behind what it holds; where the ids of the rooms are different, these are the events of the room.
 pub fn what_the_queues_get()
-    ensures few { (checks : Checks) (inbox : InboxState) (request : Request) (found : Bool) → length (marked_fresh checks inbox request found) ≤ 50 }
+    ensures few { (checks : Checks) (inbox : InboxState) (request : SendRequest) (found : Bool) → length (marked_fresh checks inbox request found) ≤ 50 }
     ensures queue { (known : List (List ℕ)) (events : List CheckedEvent) (queues : List (List CheckedEvent)) (k : ℕ) (queue : List CheckedEvent)
         → slice_get queues k ≡ Some queue → slice_get (queues_after known events queues) k ≡ Some (queue ++ for_place known k events) }
     ensures count { (known : List (List ℕ)) (events : List CheckedEvent) (queues : List (List CheckedEvent))

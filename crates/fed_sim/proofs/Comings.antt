@@ -8,8 +8,8 @@ use Rattle.fed_keys.specs.StandIn.{stand_in_key, stand_in_signature, stand_in_ch
 use Rattle.fed_event.specs.Checked.{CheckedEvent}
 use Rattle.fed_dest.specs.ServerName.{IsServerName}
 use Rattle.fed_http.specs.Message.{RequestValue}
-use Rattle.fed_http.specs.Signing.{header_of}
-use Rattle.fed_http.specs.WrittenHeaders.{header_text}
+use Rattle.fed_http.specs.XMatrixSigning.{header_of}
+use Rattle.fed_http.specs.XMatrixWriting.{header_text}
 use Rattle.fed_outbox.specs.Transaction.{TransactionValue}
 use Rattle.fed_txn.specs.Reading.{body_of}
 use Rattle.fed_txn.specs.Transaction.{origin_of}
@@ -21,7 +21,7 @@ use Rattle.fed_inbox.specs.Reply.{Answer, accepted, refused}
 use Rattle.fed_inbox.specs.Log.{LogState}
 use Rattle.fed_inbox.specs.Inbox.{InboxState, log_at, with_log}
 use Rattle.fed_inbox.specs.Taking.{Taking, taking_of}
-use Rattle.fed_inbox.specs.Answer.{Request, Step, answered, taken, with_taking, names_other, step_new, step_kept, step_signed, step_body, step_of, answer_by, logs_by, fresh_by, after, marked_answer, marked_after, marked_fresh, IsAnswered}
+use Rattle.fed_inbox.specs.Answer.{SendRequest, Step, answered, taken, with_taking, names_other, step_new, step_kept, step_signed, step_body, step_of, answer_by, logs_by, fresh_by, after, marked_answer, marked_after, marked_fresh, IsAnswered}
 use Rattle.fed_inbox.specs.WholeRequest.{Heading, IsReadAs, is_signed_by, asked, IsAnsweredWhole, no_memory, not_read, read}
 use Rattle.fed_inbox.proofs.FoundLogs.{found_is, put_back, log_at-with_log_same, log_at-with_log_other}
 use Rattle.fed_inbox.proofs.Incomings.{one_reading, signed_read}
@@ -89,7 +89,7 @@ with_logs s e i = record { own = s.own; rooms = s.rooms; logs = e i }
 
 -- ---- the inbox
 
-module _ (origin : List ℕ) (t : TransactionValue) (limits : IsWithinLimits t) (s : InboxState) (log : LogState) (there : log_at origin s.logs ≡ Some log) (r : Request) (from : r.origin ≡ origin)
+module _ (origin : List ℕ) (t : TransactionValue) (limits : IsWithinLimits t) (s : InboxState) (log : LogState) (there : log_at origin s.logs ≡ Some log) (r : SendRequest) (from : r.origin ≡ origin)
     (body : body_of r.body ≡ Ok (body_value origin t)) (signed : r.is_signed (body_value origin t) ≡ true) where
   abbrev now_taking : Taking
   now_taking = taking_of stand_in_checks s.rooms (received origin t)

@@ -5,7 +5,7 @@ use Rattle.fed_outbox.specs.Seen.{seen}
 use Rattle.fed_txn.specs.Reading.{body_of}
 use Rattle.fed_txn.specs.Writing.{body_value}
 use Rattle.fed_http.specs.Message.{RequestValue}
-use Rattle.fed_http.specs.Signing.{Asked, request_of}
+use Rattle.fed_http.specs.XMatrixSigning.{SignableJson, request_of}
 use Rattle.fed_http.specs.Writing.{request_bytes}
 use Rattle.fed_exchange.specs.Messages.{asked_of}
 use Rattle.fed_exchange.proofs.requests.request_bytes.Goals as goal
@@ -18,7 +18,7 @@ returns-clause-exact g c =
     let t = seen c.args.transaction.now in
     let body = c.in_ok-body.ensures.exact ∙ ap (λ (o : List ℕ). canonical_text (body_value o t)) c.own.ensures in
     let some : 0 < length c.in_ok-body.body.items = omega (arith, ap length body) in
-    let targeted : List ℕ → Asked = λ target. record { method = codes "PUT"; target = target; origin = own; destination = c.args.dest.now; content = body_value own t } in
+    let targeted : List ℕ → SignableJson = λ target. record { method = codes "PUT"; target = target; origin = own; destination = c.args.dest.now; content = body_value own t } in
     let request : c.in_ok-request.request ≡ request_of (asked_of own c.args.dest.now c.args.epoch t) key sign =
     c.in_ok-request.ensures.of_value (body_value own t) some body ∙ ap (λ target. request_of (targeted target) key sign) (c.deref.ensures ∙ c.in_ok-target.ensures.text) in
     IfOk-weaker c.write_request.result _ _ (λ bytes exact. exact ∙ ap (λ (r : RequestValue). request_bytes r) request) c.write_request.ensures.exact

@@ -7,7 +7,7 @@ use Rattle.fed_http.proofs.chunks.copy_chunks.Goals as goal
 pub loop-line-init : goal.loop-line-init
 loop-line-init c =
     let P : List ℕ → Type 0 = λ v. Copied c.args.bytes.now v c.args.bytes.now in
-    subst P (sym c.new-body.ensures.items) (copy_starts c.args.bytes.now c.requires.chunked)
+    subst P (sym c.in_ok-body.ensures.items) (copy_starts c.args.bytes.now c.requires.chunked)
 
 pub unreachable-requires : goal.unreachable-requires
 unreachable-requires c =

@@ -1,5 +1,5 @@
 use Rattle.std.proofs.Common.{ap, ◌∙◌}
-use Rattle.fed_http.specs.Signing.{signed_text}
+use Rattle.fed_http.specs.XMatrixSigning.{signed_text}
 use Rattle.fed_inbox.proofs.Incomings.{signed_read}
 use Rattle.fed_inbox.proofs.laws.signed_requests_pass.Goals as goal
 

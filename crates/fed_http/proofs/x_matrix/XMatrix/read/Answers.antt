@@ -1,11 +1,11 @@
 use Rattle.std.proofs.Common.{ℕ, List, Option, MatchOption, subst, ◌∙◌}
-use Rattle.fed_http.specs.declared.said.Said.{Said}
+use Rattle.fed_http.specs.declared.x_matrix.x_matrix_ref.XMatrixRef.{XMatrixRef}
 use Rattle.fed_http.specs.XMatrix.{XMatrixValue, IsXMatrix}
 use Rattle.fed_http.specs.XMatrixParts.{said_by}
 use Rattle.fed_http.proofs.Headers.{same_header}
 use Rattle.fed_http.proofs.x_matrix.XMatrix.read.Goals as goal
 
-abbrev IsAnswer : List ℕ → Option Said → Type 0
+abbrev IsAnswer : List ℕ → Option XMatrixRef → Type 0
 IsAnswer text r = MatchOption r ((h : XMatrixValue) → IsXMatrix text h → ⊥) (λ said. IsXMatrix text (said_by said))
 
 pub returns-in_err-keep-clause-refuses : goal.returns-in_err-keep-clause-refuses

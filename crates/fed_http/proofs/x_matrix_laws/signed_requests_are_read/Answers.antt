@@ -1,5 +1,0 @@
-use Rattle.fed_http.proofs.SentTexts.{sent_text_is}
-use Rattle.fed_http.proofs.x_matrix_laws.signed_requests_are_read.Goals as goal
-
-pub returns : goal.returns
-returns c = sent_text_is
