@@ -4,18 +4,20 @@ use Rattle.std.specs.Int.{int_min}
 use Rattle.std.specs.List.{position_or_len}
 use Rattle.std.specs.List.Sorted.{IsPermutation, IsSorted}
 use Rattle.std.specs.Cmp.{IsTotalOrder, int_ranks}
+use Rattle.std.specs.FinMap.{IsAntisymmetric, nat_cmp-IsAntisymmetric, slice_cmp-IsAntisymmetric}
 use Rattle.std.specs.Ordering.{MatchOrdering, is_lt, ordering_then, ordering_reverse, int_cmp, nat_cmp}
 use Rattle.std.specs.Cmp.Lexicographic.{slice_cmp, nat_list_cmp_total}
 use Rattle.std.proofs.lemmas.Cmp.{then_total, on_total, back_total, int_cmp_total}
 use Rattle.std.proofs.lemmas.Int.{ints, clamps}
 use Rattle.std.proofs.lemmas.List.Elements.{All-contains_itself}
 use Rattle.std.proofs.lemmas.List.MinMax.{ranks_by}
-use Rattle.std.proofs.lemmas.List.Sorted.{IsPermutation-refl, IsPermutation-sym, IsPermutation-trans, IsPermutation-cons, IsPermutation-insert, All-permutation, Contains-permutation, length_permutation, sorted_far}
+use Rattle.std.proofs.lemmas.List.Sorted.{IsPermutation-refl, IsPermutation-sym, IsPermutation-trans, IsPermutation-cons, IsPermutation-insert, All-permutation, Contains-permutation, length_permutation, sorted_far, sum_by-IsPermutation}
 use Rattle.fed_room_contract.specs.declared.graph.Stored.{Stored}
 use Rattle.fed_room_contract.specs.Room.{extremities_of}
 use Rattle.fed_room.specs.Laws.{AreByDepth, ArePrevEvents, IsDeepest, IsDepthAfter}
 use Rattle.fed_room.specs.Links.{depth_at, tip_cmp, with_tip, by_depth, prev_events_for, next_depth, depth_after}
 use Rattle.fed_room.proofs.Made.{InRange}
+use Rattle.fed_room.proofs.OneOrder.{sorted-one}
 use Rattle.fed_room.proofs.Tips.{tip-inserted}
 
 module _ (events : List Stored) where
@@ -120,6 +122,24 @@ module _ (events : List Stored) where
   pub depth-is : IsDepthAfter events (extremities_of events) (depth_after events (prev_events_for events))
   unfolding prev_events_for
   depth-is = depth-by (extremities_of events) (by_depth events (extremities_of events)) (by_depth-is (extremities_of events))
+
+  -- ---- one order
+
+  tip_same : IsAntisymmetric (tip_cmp events)
+  tip_same one other h = slice_cmp-IsAntisymmetric nat_cmp-IsAntisymmetric one other (second (int_cmp (depth_at events other) (depth_at events one)) _ h)
+    where
+      second : (o p : Ordering) → ordering_then o p ≡ Equal → p ≡ Equal
+      second Less p is = cc
+      second Equal p is = is
+      second Greater p is = cc
+
+  pub by_depth-one : (ids sorted other : List (List ℕ)) → AreByDepth events ids sorted → AreByDepth events ids other → sorted ≡ other
+  by_depth-one ids sorted other p q =
+      sorted-one (tip_cmp events) tip_total tip_same sorted other
+      (λ f. sum_by-IsPermutation f ids sorted p.same ∙ sym (sum_by-IsPermutation f ids other q.same)) p.in_order q.in_order
+
+  pub prev_events-one : (ids other : List (List ℕ)) → ArePrevEvents events ids → ArePrevEvents events other → ids ≡ other
+  prev_events-one ids other p q = p.first ∙ ap (take 20) (by_depth-one (extremities_of events) p.sorted q.sorted p.by_depth q.by_depth) ∙ sym q.first
 
 -- ---- the numbers of an event
 

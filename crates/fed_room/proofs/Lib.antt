@@ -4,6 +4,7 @@ pub mod Laid
 pub mod Arrays
 pub mod AtPlaces
 pub mod Tips
+pub mod OneOrder
 pub mod ByDepth
 pub mod AfterEvents
 pub mod Kept

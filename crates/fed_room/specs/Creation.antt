@@ -4,9 +4,10 @@ use Rattle.std.specs.Prelude.{ℕ, ◌+◌, List, [], ◌∷◌, map, find, is_n
 use Rattle.serde_json.specs.Data.{Data, unsigned, number, string, object, no_members, member}
 use Rattle.fed_event.specs.declared.fault.PduFault.{PduFault}
 use Rattle.fed_event.specs.Checked.{CheckedEvent}
+use Rattle.fed_event.specs.Keys.{Checks}
 use Rattle.fed_auth.specs.Version.{room_version}
 use Rattle.fed_room_contract.specs.Draft.{DraftFields}
-use Rattle.fed_room_contract.specs.Prepared.{Signer, is_own_user}
+use Rattle.fed_room_contract.specs.Prepared.{Signer, signer_of, is_own_user}
 use Rattle.fed_room.specs.declared.started_fault.StartedFault.{StartedFault}
 use Rattle.fed_room.specs.declared.started_fault.StartedFault.TheVariants.{NoUser, NoKeys}
 use Rattle.fed_room.specs.Line.{EventLine, empty_line, after_draft}
@@ -45,6 +46,10 @@ drafts_of room first others = creation room first ∷ joining room first ∷ pow
 abbrev pub events_in : Result EventLine PduFault → Result (List CheckedEvent) StartedFault
 events_in (Ok line) = Ok line.events
 events_in (Err fault) = Err (started_fault_of fault)
+
+-- what keys sign by, from what their trait says of them
+abbrev pub signer_by : {X : Type 0} → (X → List ℕ) → (X → List ℕ) → (X → List ℕ → List ℕ) → (X → Checks) → X → Signer
+signer_by name key sign checks = λ k. signer_of (name k) (key k) (sign k) (checks k)
 
 -- keys, each with what it signs by
 module _ {X : Type 0} (signer : X → Signer) (keys : List X) where

@@ -3,9 +3,8 @@ ghost use Rattle.std.specs.Prelude.{◌≡◌, ◌≢◌, ◌<◌, [], Ok, Err, 
 ghost use Rattle.serde_json.specs.Data.{string, depth};
 ghost use Rattle.serde_json.specs.Read.{max_depth};
 ghost use Rattle.fed_event.specs.declared.fault.PduFault.TheVariants as PduFault;
-ghost use Rattle.fed_room_contract.specs.Prepared.{signer_of};
 ghost use Rattle.fed_room.specs.declared.started_fault.StartedFault.TheVariants.{Memory, NoUser, NoKeys};
-ghost use Rattle.fed_room.specs.Creation.{only, state_draft, creation, joining, power_levels, join_rules, drafts_of, keys_of, after_signed, after_drafts, keyless, started_of};
+ghost use Rattle.fed_room.specs.Creation.{only, state_draft, creation, joining, power_levels, join_rules, drafts_of, signer_by, keys_of, after_signed, after_drafts, keyless, started_of};
 ghost use Rattle.fed_room.specs.Line.{empty_line};
 ghost use Rattle.fed_room.specs.LineParts.{line_seen};
 
@@ -35,10 +34,10 @@ pub fn started<K: Keys>(
     users: &[String],
     keys: &[K],
 ) -> Result<Vec<Checked>, StartedFault>
-    ensures ok { IfOk result (λ events. started_of (λ k. signer_of (K.own_name k) (K.own_key k) (K.own_signature k) (K.checks k)) keys.now room.now (map string_bytes users.now) ≡ Ok events.items) }
-    ensures fails { IfErr result (λ fault. fault ≢ Memory → started_of (λ k. signer_of (K.own_name k) (K.own_key k) (K.own_signature k) (K.checks k)) keys.now room.now (map string_bytes users.now) ≡ Err fault) }
+    ensures ok { IfOk result (λ events. started_of (signer_by K.own_name K.own_key K.own_signature K.checks) keys.now room.now (map string_bytes users.now) ≡ Ok events.items) }
+    ensures fails { IfErr result (λ fault. fault ≢ Memory → started_of (signer_by K.own_name K.own_key K.own_signature K.checks) keys.now room.now (map string_bytes users.now) ≡ Err fault) }
     ensures no_user { users.now ≡ [] → result ≡ Err NoUser }
-    ensures no_keys { IfSome (keyless (λ k. signer_of (K.own_name k) (K.own_key k) (K.own_signature k) (K.checks k)) keys.now 1 (map string_bytes users.now)) (λ place. result ≡ Err (NoKeys place)) }
+    ensures no_keys { IfSome (keyless (signer_by K.own_name K.own_key K.own_signature K.checks) keys.now 1 (map string_bytes users.now)) (λ place. result ≡ Err (NoKeys place)) }
 {
     let Some((first, others)) = users.split_first() else {
         return Err(StartedFault::NoUser);
@@ -53,7 +52,7 @@ pub fn started<K: Keys>(
 
 // The place of the first user whose server has no keys, counted from 1.
 fn keyless<K: Keys>(users: &[String], keys: &[K]) -> Option<usize>
-    ensures { result ≡ keyless (λ k. signer_of (K.own_name k) (K.own_key k) (K.own_signature k) (K.checks k)) keys.now 1 (map string_bytes users.now) }
+    ensures { result ≡ keyless (signer_by K.own_name K.own_key K.own_signature K.checks) keys.now 1 (map string_bytes users.now) }
 {
     for place in 0..users.len() {
         if keys_of(keys, &users[place]).is_none() {
@@ -65,7 +64,7 @@ fn keyless<K: Keys>(users: &[String], keys: &[K]) -> Option<usize>
 
 // The first keys of a user's server.
 fn keys_of<'a, K: Keys>(keys: &'a [K], user: &str) -> Option<&'a K>
-    ensures { option_map (λ k. k.now) result ≡ keys_of (λ k. signer_of (K.own_name k) (K.own_key k) (K.own_signature k) (K.checks k)) keys.now user.now }
+    ensures { option_map (λ k. k.now) result ≡ keys_of (signer_by K.own_name K.own_key K.own_signature K.checks) keys.now user.now }
 {
     for own in keys {
         if is_own_user(user, own) {
@@ -77,8 +76,8 @@ fn keys_of<'a, K: Keys>(keys: &'a [K], user: &str) -> Option<&'a K>
 
 // The events of these drafts, one after another.
 fn line<K: Keys>(alloc: Global, drafts: Vec<Draft>, keys: &[K]) -> Result<Line, PduFault>
-    ensures ok { IfOk result (λ line. after_drafts (λ k. signer_of (K.own_name k) (K.own_key k) (K.own_signature k) (K.checks k)) keys.now (Ok empty_line) drafts.items ≡ Ok (line_seen line)) }
-    ensures fails { IfErr result (λ fault. fault ≢ PduFault.Memory → after_drafts (λ k. signer_of (K.own_name k) (K.own_key k) (K.own_signature k) (K.checks k)) keys.now (Ok empty_line) drafts.items ≡ Err fault) }
+    ensures ok { IfOk result (λ line. after_drafts (signer_by K.own_name K.own_key K.own_signature K.checks) keys.now (Ok empty_line) drafts.items ≡ Ok (line_seen line)) }
+    ensures fails { IfErr result (λ fault. fault ≢ PduFault.Memory → after_drafts (signer_by K.own_name K.own_key K.own_signature K.checks) keys.now (Ok empty_line) drafts.items ≡ Err fault) }
 {
     let mut line = Line::empty(alloc);
     for draft in drafts {
@@ -94,10 +93,10 @@ fn with_draft<K: Keys>(
     draft: Draft,
     keys: &[K],
 ) -> Result<Line, PduFault>
-    ensures ok { let signed : Option K = keys_of (λ k. signer_of (K.own_name k) (K.own_key k) (K.own_signature k) (K.checks k)) keys.now draft.sender in
-        IfOk result (λ more. after_signed (λ k. signer_of (K.own_name k) (K.own_key k) (K.own_signature k) (K.checks k)) keys.now signed (line_seen line) draft ≡ Ok (line_seen more)) }
-    ensures fails { let signed : Option K = keys_of (λ k. signer_of (K.own_name k) (K.own_key k) (K.own_signature k) (K.checks k)) keys.now draft.sender in
-        IfErr result (λ fault. fault ≢ PduFault.Memory → after_signed (λ k. signer_of (K.own_name k) (K.own_key k) (K.own_signature k) (K.checks k)) keys.now signed (line_seen line) draft ≡ Err fault) }
+    ensures ok { let signed : Option K = keys_of (signer_by K.own_name K.own_key K.own_signature K.checks) keys.now draft.sender in
+        IfOk result (λ more. after_signed (signer_by K.own_name K.own_key K.own_signature K.checks) keys.now signed (line_seen line) draft ≡ Ok (line_seen more)) }
+    ensures fails { let signed : Option K = keys_of (signer_by K.own_name K.own_key K.own_signature K.checks) keys.now draft.sender in
+        IfErr result (λ fault. fault ≢ PduFault.Memory → after_signed (signer_by K.own_name K.own_key K.own_signature K.checks) keys.now signed (line_seen line) draft ≡ Err fault) }
 {
     match keys_of(keys, &draft.sender) {
         Some(own) => line.with_draft(alloc, draft, own),

@@ -2,7 +2,7 @@
 ghost use Rattle.std.specs.Prelude.{◌≡◌, ◌≤ℤ◌, ◌+ℤ◌, ◌-◌, ◌^◌, ℕ, ℤ, pos, negsuc, true, List, ◌++◌, map};
 ghost use Rattle.std.specs.Int.{int_min};
 ghost use Rattle.serde_json.specs.Data.{Data};
-ghost use Rattle.fed_event.specs.Fields.{prev_events_of, auth_events_of, depth_of};
+ghost use Rattle.fed_event.specs.Fields.{prev_events_of, depth_of};
 ghost use Rattle.fed_event.specs.Checked.{CheckedEvent};
 ghost use Rattle.fed_room_contract.specs.declared.input.Input.{Input};
 ghost use Rattle.fed_room_contract.specs.declared.input.Input.TheVariants.{Receive};
@@ -14,7 +14,7 @@ ghost use Rattle.fed_room_contract.specs.Graph.{IsGraph, is_stored};
 ghost use Rattle.fed_room_contract.specs.Prepared.{Signer, sealed_by};
 ghost use Rattle.fed_room_contract.specs.Room.{extremities_of};
 ghost use Rattle.fed_room_contract.specs.State.{StateMap};
-ghost use Rattle.fed_room.specs.Laws.{before_by, AreStatesAfter, ArePrevEvents, IsDepthAfter};
+ghost use Rattle.fed_room.specs.Laws.{before_by, AreStatesAfter, AreByDepth, ArePrevEvents, IsDepthAfter};
 ghost use Rattle.fed_room.specs.Links.{next_depth};
 ghost use Rattle.fed_room.specs.Room.{room_rules};
 ghost use Rattle.fed_room.specs.Start.{after_all};
@@ -37,6 +37,12 @@ pub fn what_a_new_event_names()
     ensures depth { (signer : Signer) (events : List Stored) (draft : DraftFields)
         → IsDepthAfter events (extremities_of events) (depth_of (sealed_by signer (room_rules.parts events draft))) }
     ensures one_more { (depth : ℤ) → negsuc (2 ^ 53 - 2) ≤ℤ depth → next_depth depth ≡ int_min (depth +ℤ pos 1) (pos (2 ^ 53 - 1)) }
+{}
+
+/// Ids stand by depth in one order, so that the same events have one list of prev events for a new one.
+pub fn ids_have_one_order()
+    ensures by_depth { (events : List Stored) (ids sorted other : List (List ℕ)) → AreByDepth events ids sorted → AreByDepth events ids other → sorted ≡ other }
+    ensures prev_events { (events : List Stored) (ids other : List (List ℕ)) → ArePrevEvents events ids → ArePrevEvents events other → ids ≡ other }
 {}
 
 /// The events that a room begins with are inputs: after them it is the room that received them, one after another, and after further

@@ -36,7 +36,10 @@ mod table;
 mod table_room;
 
 pub use creation::started;
-pub use laws::{a_started_room_and_its_inputs, states_follow_the_events, what_a_new_event_names};
+pub use laws::{
+    a_started_room_and_its_inputs, ids_have_one_order, states_follow_the_events,
+    what_a_new_event_names,
+};
 pub use room::Room;
 pub use start_fault::StartFault;
 pub use started_fault::StartedFault;
