@@ -123,9 +123,9 @@ impl<'a> AuthEvents<'a> {
     }
 }
 
-// Whether this is a state event of this type and state key.
+/// Whether this is a state event of this type and state key.
 #[tactic(auto, unfolding(crate::specs::AuthState::stands_at))]
-fn stands_at(auth: &Stored, kind: &str, state_key: &str) -> bool
+pub fn stands_at(auth: &Stored, kind: &str, state_key: &str) -> bool
     ensures { result ≡ stands_at kind.now state_key.now auth.now }
 {
     let auth = auth.event.event();

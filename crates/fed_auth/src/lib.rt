@@ -33,7 +33,7 @@ mod selector;
 mod state_view;
 mod version;
 
-pub use auth_events::{AuthEvents, auth_state, lay_over};
+pub use auth_events::{AuthEvents, auth_state, lay_over, stands_at};
 pub use fed_event::authorising_user;
 pub use join_rule::JoinRule;
 pub use laws::{selections_pass, the_selection_decides, what_an_auth_state_has, what_is_selected};

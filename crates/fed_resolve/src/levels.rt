@@ -3,17 +3,16 @@ ghost use Rattle.std.specs.Prelude.{◌≡◌, ◌<◌, [], IfSome, codes, find,
 ghost use Rattle.std.specs.List.{filter_map};
 ghost use Rattle.fed_json.specs.JsonRef.{seen};
 ghost use Rattle.fed_event.specs.Fields.{auth_events_of, content_of, sender_of};
-ghost use Rattle.fed_auth.specs.AuthState.{stands_at};
 ghost use Rattle.fed_auth.specs.Levels.{user_level};
 ghost use Rattle.fed_auth.specs.StateView.{creator_in};
 ghost use Rattle.fed_resolve.specs.Chain.{place_of};
 ghost use Rattle.fed_resolve.specs.Mainline.{levels_auth};
 ghost use Rattle.fed_resolve.specs.LevelsParts.{stands_there, auth_by, create_by, levels_by};
 
-use fed_auth::{Level, Levels};
+use fed_auth::{Level, Levels, stands_at};
 use fed_event::Pdu;
 use fed_json::JsonRef;
-use fed_room_contract::{Graph, Stored};
+use fed_room_contract::Graph;
 
 // The level of the sender of an event, by the power levels event and the create event among its auth events.
 pub(crate) fn sender_level(graph: &Graph, event: &Pdu) -> Level
@@ -88,12 +87,4 @@ fn stands_there(graph: &Graph, place: usize, kind: &str, state_key: &str) -> boo
         Some(stored) => stands_at(stored, kind, state_key),
         None => false,
     }
-}
-
-#[tactic(auto, unfolding(fed_auth::specs::AuthState::stands_at))]
-fn stands_at(stored: &Stored, kind: &str, state_key: &str) -> bool
-    ensures { result ≡ stands_at kind.now state_key.now stored.now }
-{
-    let event = stored.event.event();
-    kind == event.kind() && Some(state_key) == event.state_key()
 }
