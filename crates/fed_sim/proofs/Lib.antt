@@ -27,3 +27,9 @@ pub mod Starting
 pub mod Stored
 pub mod Journals
 pub mod ScriptSpaces
+pub mod ScriptTable
+pub mod ScriptContent
+pub mod ScriptPlaces
+pub mod ScriptNames
+pub mod ScriptWrong
+pub mod ScriptLines

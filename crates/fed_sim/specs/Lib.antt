@@ -19,3 +19,8 @@ pub mod Running
 pub mod NewServer
 pub mod Headline
 pub mod ScriptWords
+pub mod ScriptSteps
+pub mod ScriptTexts
+pub mod ScriptFaults
+pub mod Script
+pub mod ScriptReadings

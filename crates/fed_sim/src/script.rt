@@ -1,4 +1,7 @@
 // The steps that a text names.
+ghost use Rattle.std.specs.Prelude.{IfOk, IfErr};
+ghost use Rattle.fed_sim.specs.Script.{IsScript, IsNoScriptBy};
+
 mod command;
 mod faults;
 mod places;
@@ -31,7 +34,10 @@ use std::alloc::Global;
 ///
 /// `At` with the first line that is wrong, counted from 1, and what is wrong there. A text without commands has wrong words at line 1.
 /// `Memory` where memory ran out before such a line.
-pub fn read_script(alloc: Global, text: &[u8]) -> Result<(Setup, Vec<Step>), ScriptFault> {
+pub fn read_script(alloc: Global, text: &[u8]) -> Result<(Setup, Vec<Step>), ScriptFault>
+    ensures script { IfOk result (λ read. IsScript text.now read.0 read.1.items) }
+    ensures wrong { IfErr result (IsNoScriptBy text.now) }
+{
     let mut reading = Reading::new(alloc);
     for (place, line) in text.split(|byte| *byte == b'\n').enumerate() {
         if let Err(fault) = reading.take_line(alloc, line) {

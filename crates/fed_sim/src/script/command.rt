@@ -1,4 +1,10 @@
 // Commands of a script.
+ghost use Rattle.std.specs.Prelude.{◌≡◌, Ok, Err, IfOk, IfErr};
+ghost use Rattle.std.specs.List.{before_first, after_first};
+ghost use Rattle.fed_sim.specs.Script.{command_text, line_text};
+ghost use Rattle.fed_sim.specs.ScriptWords.{is_space};
+ghost use Rattle.fed_sim.specs.ScriptReadings.{command_of};
+
 use super::faults::ScriptError;
 use super::step_words::StepWords;
 use super::words::first_word;
@@ -16,11 +22,22 @@ pub(crate) enum Command<'a> {
 
 impl<'a> Command<'a> {
     /// The command of a line. What needs the list of servers or memory is not looked at.
-    pub(crate) fn read(line: &'a str) -> Result<Command<'a>, ScriptError> {
-        let (name, rest) = match line.split_once(' ') {
-            Some((name, rest)) => (name, rest),
-            None => (line, ""),
+    pub(crate) fn read(line: &'a [u8]) -> Result<Command<'a>, ScriptError>
+        ensures ok { IfOk result (λ command. line_text line.now ≡ Ok (command_of command)) }
+        ensures wrong { IfErr result (λ fault. line_text line.now ≡ Err fault) }
+    {
+        let Ok(line) = std::str::from_utf8(line) else {
+            return Err(ScriptError::WrongWords);
         };
+        let (name, rest) = name_and_rest(line);
+        Command::named(name, rest)
+    }
+
+    // The command of this name.
+    fn named(name: &str, rest: &'a str) -> Result<Command<'a>, ScriptError>
+        ensures ok { IfOk result (λ command. command_text name.now rest.now ≡ Ok (command_of command)) }
+        ensures wrong { IfErr result (λ fault. command_text name.now rest.now ≡ Err fault) }
+    {
         match name {
             "servers" => Ok(Command::Servers { names: rest }),
             "room" => {
@@ -29,5 +46,16 @@ impl<'a> Command<'a> {
             }
             _ => Ok(Command::Step(StepWords::read(name, rest)?)),
         }
+    }
+}
+
+// The name of the command of a line, and what stands behind it.
+fn name_and_rest(line: &str) -> (&str, &str)
+    ensures name { result.0.now ≡ before_first is_space line.now }
+    ensures rest { result.1.now ≡ after_first is_space line.now }
+{
+    match line.split_once(' ') {
+        Some((name, rest)) => (name, rest),
+        None => (line, ""),
     }
 }

@@ -1,6 +1,8 @@
 // Why a text is no script.
 ghost use Rattle.std.specs.Prelude.{◌≡◌};
-ghost use Rattle.fed_sim.specs.declared.script.faults.LineFault.TheVariants.{Memory};
+ghost use Rattle.fed_sim.specs.ScriptFaults.{fault_of_name, fault_of_setup, fault_of_content, error_of_room};
+ghost use Rattle.fed_sim.specs.declared.script.faults.ScriptError.{ScriptError};
+ghost use Rattle.fed_sim.specs.declared.script.faults.LineFault.TheVariants.{Memory, Wrong};
 
 use crate::setup::SimFault;
 use crate::setup_check::RoomFault;
@@ -46,7 +48,10 @@ pub(crate) enum LineFault {
 
 impl LineFault {
     /// The fault of a script whose line of this number has this fault.
-    pub(crate) fn at(self, line: u64) -> ScriptFault {
+    pub(crate) fn at(self, line: u64) -> ScriptFault
+        ensures memory { self ≡ Memory → result ≡ ScriptFault.Memory }
+        ensures wrong { (what : ScriptError) → self ≡ Wrong what → result ≡ ScriptFault.At line what }
+    {
         match self {
             LineFault::Memory => ScriptFault::Memory,
             LineFault::Wrong(what) => ScriptFault::At { line, what },
@@ -55,6 +60,8 @@ impl LineFault {
 }
 
 impl From<ScriptError> for LineFault {
+    ghost from_gives = { λ what fault. fault ≡ Wrong what };
+
     fn from(what: ScriptError) -> LineFault {
         LineFault::Wrong(what)
     }
@@ -77,6 +84,8 @@ impl<T: Drop> From<AllocFailed<T>> for LineFault {
 }
 
 impl From<NameFault> for LineFault {
+    ghost from_gives = { λ name fault. fault ≡ fault_of_name name };
+
     fn from(fault: NameFault) -> LineFault {
         match fault {
             NameFault::Memory => LineFault::Memory,
@@ -86,6 +95,8 @@ impl From<NameFault> for LineFault {
 }
 
 impl From<SimFault> for LineFault {
+    ghost from_gives = { λ setup fault. fault ≡ fault_of_setup setup };
+
     fn from(fault: SimFault) -> LineFault {
         match fault {
             SimFault::Memory => LineFault::Memory,
@@ -95,6 +106,8 @@ impl From<SimFault> for LineFault {
 }
 
 impl From<RoomFault> for LineFault {
+    ghost from_gives = { λ room fault. fault ≡ Wrong (error_of_room room) };
+
     fn from(fault: RoomFault) -> LineFault {
         match fault {
             RoomFault::Wrong => LineFault::Wrong(ScriptError::WrongWords),
@@ -104,6 +117,8 @@ impl From<RoomFault> for LineFault {
 }
 
 impl From<JsonFault> for LineFault {
+    ghost from_gives = { λ content fault. fault ≡ fault_of_content content };
+
     fn from(fault: JsonFault) -> LineFault {
         match fault {
             JsonFault::Memory => LineFault::Memory,

@@ -1,5 +1,9 @@
 // The words of what is sent.
-ghost use Rattle.std.specs.Prelude.{◌<◌};
+ghost use Rattle.std.specs.Prelude.{◌≡◌, ◌<◌, Some, None, IfOk, IfErr, option_map, option_copied, string_bytes};
+ghost use Rattle.fed_sim.specs.ScriptSteps.{IsStep, edu_of, send_words, edu_words};
+ghost use Rattle.fed_sim.specs.ScriptFaults.{HasStepFault};
+ghost use Rattle.fed_sim.specs.ScriptTexts.{send_text, edu_text};
+ghost use Rattle.fed_sim.specs.declared.script.faults.ScriptError.TheVariants.{WrongWords};
 ghost use Rattle.serde_json.specs.Data.{depth};
 ghost use Rattle.serde_json.specs.Read.{max_depth};
 
@@ -25,7 +29,10 @@ pub(crate) struct SendWords<'a> {
 
 impl<'a> SendWords<'a> {
     /// The words of a line behind the name of the command.
-    pub(crate) fn read(rest: &'a str) -> Result<SendWords<'a>, ScriptError> {
+    pub(crate) fn read(rest: &'a str) -> Result<SendWords<'a>, ScriptError>
+        ensures ok { IfOk result (λ words. send_words rest.now ≡ Some (send_text words)) }
+        ensures wrong { IfErr result (λ fault. (fault ≡ WrongWords) × (send_words rest.now ≡ None)) }
+    {
         let (server, rest) = first_word(rest)?;
         let (room, rest) = first_word(rest)?;
         let (sender, rest) = first_word(rest)?;
@@ -42,7 +49,10 @@ impl<'a> SendWords<'a> {
     }
 
     /// The step, among these servers.
-    pub(crate) fn step(self, alloc: Global, servers: &List) -> Result<Step, LineFault> {
+    pub(crate) fn step(self, alloc: Global, servers: &List) -> Result<Step, LineFault>
+        ensures ok { IfOk result (IsStep servers.now (send_text self.entry)) }
+        ensures wrong { IfErr result (HasStepFault servers.now (send_text self.entry)) }
+    {
         let server = place_of(servers, self.server)?;
         let content = read_within(alloc, self.content.as_bytes(), MAX_LEVELS)?;
         let draft = Draft {
@@ -68,7 +78,10 @@ pub(crate) struct EduWords<'a> {
 
 impl<'a> EduWords<'a> {
     /// The words of a line behind the name of the command.
-    pub(crate) fn read(rest: &'a str) -> Result<EduWords<'a>, ScriptError> {
+    pub(crate) fn read(rest: &'a str) -> Result<EduWords<'a>, ScriptError>
+        ensures ok { IfOk result (λ words. edu_words rest.now ≡ Some (edu_text words)) }
+        ensures wrong { IfErr result (λ fault. (fault ≡ WrongWords) × (edu_words rest.now ≡ None)) }
+    {
         let (server, rest) = first_word(rest)?;
         let (kind, rest) = first_word(rest)?;
         let (dests, rest) = first_word(rest)?;
@@ -85,7 +98,10 @@ impl<'a> EduWords<'a> {
     }
 
     /// The step, among these servers.
-    pub(crate) fn step(self, alloc: Global, servers: &List) -> Result<Step, LineFault> {
+    pub(crate) fn step(self, alloc: Global, servers: &List) -> Result<Step, LineFault>
+        ensures ok { IfOk result (IsStep servers.now (edu_text self.entry)) }
+        ensures wrong { IfErr result (HasStepFault servers.now (edu_text self.entry)) }
+    {
         let server = place_of(servers, self.server)?;
         let dests = set_of(alloc, servers, self.dests)?;
         // The object nests one level more than its content.
@@ -96,7 +112,9 @@ impl<'a> EduWords<'a> {
 }
 
 // A text that may be missing, to keep.
-fn kept(alloc: Global, text: Option<&str>) -> Result<Option<String>, NoMemory> {
+fn kept(alloc: Global, text: Option<&str>) -> Result<Option<String>, NoMemory>
+    ensures { IfOk result (λ kept. option_map string_bytes kept ≡ option_copied text.entry) }
+{
     match text {
         Some(text) => Ok(Some(String::from_str(alloc, text)?)),
         None => Ok(None),
@@ -106,6 +124,7 @@ fn kept(alloc: Global, text: Option<&str>) -> Result<Option<String>, NoMemory> {
 // The ephemeral data unit of this type and content.
 fn edu_of(alloc: Global, kind: &str, content: Json) -> Result<Json, NoMemory>
     requires { depth content < max_depth }
+    ensures { IfOk result (λ edu. edu ≡ edu_of kind.now content) }
 {
     let kind = Json::from(String::from_str(alloc, kind)?);
     let mut edu = Json::empty_object(alloc);

@@ -1,4 +1,9 @@
 // The words of steps.
+ghost use Rattle.std.specs.Prelude.{◌≡◌, Ok, Err, IfOk, IfErr};
+ghost use Rattle.fed_sim.specs.ScriptSteps.{IsStep, step_text};
+ghost use Rattle.fed_sim.specs.ScriptFaults.{HasStepFault};
+ghost use Rattle.fed_sim.specs.ScriptTexts.{text_of};
+
 use super::faults::{LineFault, ScriptError};
 use super::places::{Pair, place_of};
 use super::sending::{EduWords, SendWords};
@@ -27,7 +32,10 @@ pub(crate) enum StepWords<'a> {
 
 impl<'a> StepWords<'a> {
     /// The step that the first word of a line and the rest of it name.
-    pub(crate) fn read(name: &str, rest: &'a str) -> Result<StepWords<'a>, ScriptError> {
+    pub(crate) fn read(name: &str, rest: &'a str) -> Result<StepWords<'a>, ScriptError>
+        ensures ok { IfOk result (λ words. step_text name.now rest.now ≡ Ok (text_of words)) }
+        ensures wrong { IfErr result (λ fault. step_text name.now rest.now ≡ Err fault) }
+    {
         match name {
             "send" => Ok(StepWords::Send(SendWords::read(rest)?)),
             "edu" => Ok(StepWords::Edu(EduWords::read(rest)?)),
@@ -58,7 +66,10 @@ impl<'a> StepWords<'a> {
     }
 
     /// The step, among these servers.
-    pub(crate) fn step(self, alloc: Global, servers: &List) -> Result<Step, LineFault> {
+    pub(crate) fn step(self, alloc: Global, servers: &List) -> Result<Step, LineFault>
+        ensures ok { IfOk result (IsStep servers.now (text_of self.entry)) }
+        ensures wrong { IfErr result (HasStepFault servers.now (text_of self.entry)) }
+    {
         match self {
             StepWords::Send(words) => words.step(alloc, servers),
             StepWords::Edu(words) => words.step(alloc, servers),
