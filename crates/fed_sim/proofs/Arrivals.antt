@@ -1,7 +1,7 @@
 -- Events that get in front of their rooms.
 use Rattle.std.proofs.Common.{arith, ◌≡◌, ℕ, zero, suc, ◌+◌, ◌<◌, ◌≤◌, ◌==◌, Bool, true, false, if◌then◌else◌, List, [], ◌∷◌, ◌++◌, length, set, Option, Some, None, refl, sym, ap, ◌∙◌, append_assoc, append-nil}
 use Rattle.std.specs.List.{slice_get}
-use Rattle.std.specs.Option.{option_map, unwrap_or}
+use Rattle.std.specs.Option.{option_map}
 use Rattle.std.proofs.lemmas.List.{map-set}
 use Rattle.std.proofs.lemmas.Option.{same_Some, none-some, slice_get-map}
 use Rattle.std.proofs.lemmas.Bool.{eq-eqb, ne_eqb}
@@ -63,16 +63,6 @@ module _ (known : List (List ℕ)) where
       (slice_get-map (λ (h : HostedState). h.queue) rooms k ∙ ap (option_map (λ (h : HostedState). h.queue)) here)
 
   -- an event has no room here
-  pub arrives_nowhere : (event : CheckedEvent) (later : List CheckedEvent) (queues : List (List CheckedEvent)) (n p : ℕ)
-      → p ≡ unwrap_or (place_of known (room_id_of event.event)) n → n ≡ length queues → n ≤ p
+  pub arrives_nowhere : (event : CheckedEvent) (later : List CheckedEvent) (queues : List (List CheckedEvent)) → place_of known (room_id_of event.event) ≡ None
       → queues_from 0 known later queues ≡ queues_from 0 known (event ∷ later) queues
-  arrives_nowhere event later queues n p is all past = sym (not_here 0 event later queues (λ k below. by k (place_of known (room_id_of event.event)) is (omega (arith, below, all))))
-    where
-      by : (k : ℕ) (o : Option ℕ) → p ≡ unwrap_or o n → k < n → holds (λ place. place == 0 + k) o ≡ false
-      by k None e below = refl
-      by k (Some q) e below = ne_eqb _ _ (λ same. absurd (omega (arith, past, below, e, same)))
-
--- the place of its room is one of these
-pub found_within : (o : Option ℕ) (n p : ℕ) → p ≡ unwrap_or o n → p < n → o ≡ Some p
-found_within None n p is within = absurd (omega (arith, is, within))
-found_within (Some q) n p is within = ap Some (sym is)
+  arrives_nowhere event later queues none = sym (not_here 0 event later queues (λ k below. ap (holds (λ place. place == 0 + k)) none))

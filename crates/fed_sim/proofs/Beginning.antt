@@ -27,7 +27,7 @@ use Rattle.fed_sim.specs.Ways.{way_to}
 use Rattle.fed_sim.specs.World.{PacketState, WorldState}
 use Rattle.fed_sim.proofs.Ids.{txn_id}
 use Rattle.fed_sim.proofs.Landing.{kept_for, Lands}
-use Rattle.fed_sim.proofs.LaneMoves.{IsSoundEdu, IsHeld, sent_of}
+use Rattle.fed_sim.proofs.WayMoves.{IsSoundEdu, IsHeld, sent_of}
 use Rattle.fed_sim.proofs.Between.{same_some, not_none, IsServerAt, IsBetween, IsSound, way_there}
 
 -- ---- the names
@@ -112,10 +112,10 @@ fresh_held o d epoch name other = record {
 
 -- ---- the ways
 
-lane_is : (n count d : ℕ) (lane : Way) → slice_get (map new_way (range_with_len n count)) d ≡ Some lane → lane ≡ new_way (n + d)
-lane_is n zero d lane e = absurd (not_none lane e)
-lane_is n (suc count) zero lane e = let at : n ≡ n + 0 = omega arith in sym (same_some (new_way n) lane e) ∙ ap new_way at
-lane_is n (suc count) (suc d) lane e = let at : n + 1 + d ≡ n + suc d = omega arith in lane_is (n + 1) count d lane e ∙ ap new_way at
+way_is : (n count d : ℕ) (way : Way) → slice_get (map new_way (range_with_len n count)) d ≡ Some way → way ≡ new_way (n + d)
+way_is n zero d way e = absurd (not_none way e)
+way_is n (suc count) zero way e = let at : n ≡ n + 0 = omega arith in sym (same_some (new_way n) way e) ∙ ap new_way at
+way_is n (suc count) (suc d) way e = let at : n + 1 + d ≡ n + suc d = omega arith in way_is (n + 1) count d way e ∙ ap new_way at
 
 -- ---- the world
 
@@ -125,7 +125,7 @@ begins_sound setup w b = record {
   moment = let zero_now = b.now in omega (arith, zero_now);
   servers = λ k s e. server k s (b.servers k s e);
   ways = λ k a c n bytes e. absurd (no_packets k _ (ap (λ ps. packet_at ps k) (sym b.packets) ∙ e));
-  pairs = λ o d os ds lane eo ed way. pair o d os ds lane (b.servers o os eo) (b.servers d ds ed) way;
+  pairs = λ o d os ds way eo ed leads. pair o d os ds way (b.servers o os eo) (b.servers d ds ed) leads;
 }
   where
     server : (k : ℕ) (s : ServerState) → IsBeginning w.names w.known setup.rooms.items k s → IsServerAt w.names (length w.servers) k s
@@ -139,20 +139,20 @@ begins_sound setup w b = record {
           ways = length-map (range_with_len 0 (length w.names)) new_way ∙ length-range_with_len 0 (length w.names) ∙ sym b.count;
         })
 
-    pair : (o d : ℕ) (os ds : ServerState) (lane : Way) → IsBeginning w.names w.known setup.rooms.items o os → IsBeginning w.names w.known setup.rooms.items d ds → way_to os d ≡ Some lane
-        → IsBetween o d w.epoch os ds lane w.packets
-    pair o d os ds lane of to way =
+    pair : (o d : ℕ) (os ds : ServerState) (way : Way) → IsBeginning w.names w.known setup.rooms.items o os → IsBeginning w.names w.known setup.rooms.items d ds → way_to os d ≡ Some way
+        → IsBetween o d w.epoch os ds way w.packets
+    pair o d os ds way of to leads =
         let a = of.new in
         let c = to.new in
-        let there = way_there (new_server w.names w.known o a.name of.hosted) d lane (ap (λ s. way_to s d) (sym a.is) ∙ way) in
+        let there = way_there (new_server w.names w.known o a.name of.hosted) d way (ap (λ s. way_to s d) (sym a.is) ∙ leads) in
         let at : 0 + d ≡ d = omega arith in
-        let is : lane ≡ new_way d = lane_is 0 (length w.names) d lane there.is ∙ ap new_way at in
+        let is : way ≡ new_way d = way_is 0 (length w.names) d way there.is ∙ ap new_way at in
         let apart : a.name ≢ c.name = λ e. there.apart (each_once w.names b.order d o a.name (c.name_is ∙ ap Some (sym e)) a.name_is) in
         let new : IsBetween o d w.epoch (new_server w.names w.known o a.name of.hosted) (new_server w.names w.known d c.name to.hosted) (new_way d) [] = record {
           log = new_log finite.empty a.name;
           log_is = log_there finite.empty w.names c.name a.name o apart a.name_is;
           held = fresh_held o d w.epoch a.name c.name;
         } in
-        subst (λ x. IsBetween o d w.epoch x ds lane w.packets) (sym a.is) (subst (λ y. IsBetween o d w.epoch (new_server w.names w.known o a.name of.hosted) y lane w.packets) (sym c.is)
+        subst (λ x. IsBetween o d w.epoch x ds way w.packets) (sym a.is) (subst (λ y. IsBetween o d w.epoch (new_server w.names w.known o a.name of.hosted) y way w.packets) (sym c.is)
         (subst (λ l. IsBetween o d w.epoch (new_server w.names w.known o a.name of.hosted) (new_server w.names w.known d c.name to.hosted) l w.packets) (sym is)
         (subst (IsBetween o d w.epoch (new_server w.names w.known o a.name of.hosted) (new_server w.names w.known d c.name to.hosted) (new_way d)) (sym b.packets) new)))

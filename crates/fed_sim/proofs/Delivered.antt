@@ -19,7 +19,7 @@ use Rattle.fed_sim.specs.Headline.{event_texts, IsDelivered, AllDelivered}
 use Rattle.fed_sim.specs.World.{PacketState, WorldState}
 use Rattle.fed_sim.proofs.Servers.{listed}
 use Rattle.fed_sim.proofs.Landing.{texts, by_reply, kept_for, landed, landed_edus}
-use Rattle.fed_sim.proofs.LaneMoves.{Laws}
+use Rattle.fed_sim.proofs.WayMoves.{Laws}
 use Rattle.fed_sim.proofs.Between.{IsBetween, IsSound, there_way}
 
 pub same_texts : (events : List CheckedEvent) → texts events ≡ event_texts events
@@ -49,9 +49,9 @@ whole done flight waiting queue landed rest all is front =
 prefix : {A : Type 0} (f : A → List ℕ) (all front rest : List A) (taken : List (List ℕ)) → taken ≡ map f front → all ≡ front ++ rest → (more : List (List ℕ)) × (map f all ≡ taken ++ more)
 prefix f all front rest taken is split = (map f rest, ap (map f) split ∙ map-append f front rest ∙ ap (λ t. t ++ map f rest) (sym is))
 
-delivered_between : (laws : Laws) (o d epoch : ℕ) (os ds : ServerState) (lane : Way) (packets : List PacketState) → IsBetween o d epoch os ds lane packets → IsDelivered os ds d lane
-delivered_between laws o d epoch os ds lane packets b =
-    let box = lane.outbox in
+delivered_between : (laws : Laws) (o d epoch : ℕ) (os ds : ServerState) (way : Way) (packets : List PacketState) → IsBetween o d epoch os ds way packets → IsDelivered os ds d way
+delivered_between laws o d epoch os ds way packets b =
+    let box = way.outbox in
     let lands = b.held.lands in
     let took : taken_of ds.inbox os.name ≡ b.log.pdus = ap pdus_by b.log_is in
     let took_edus : taken_edus_of ds.inbox os.name ≡ b.log.edus = ap edus_by b.log_is in
@@ -65,12 +65,12 @@ delivered_between laws o d epoch os ds lane packets b =
     let edus_count : length (taken_edus_of ds.inbox os.name) ≡ length (box.settled_edus ++ landed_edus b.log epoch box.unanswered) = ap length edus_are ∙ length-map (box.settled_edus ++ landed_edus b.log epoch box.unanswered) _ in
     record {
       events =
-          prefix (λ (checked : CheckedEvent). canonical_text checked.event) (addressed os.journal d) (box.settled ++ landed b.log epoch box.unanswered) (front.0 ++ (box.waiting ++ events_of lane.queue)) (taken_of ds.inbox os.name) events_are
-          (whole box.settled (unanswered_pdus box.unanswered) box.waiting (events_of lane.queue) (landed b.log epoch box.unanswered) front.0 (addressed os.journal d) (laws.events d os.journal lane b.held.follows) front.1);
+          prefix (λ (checked : CheckedEvent). canonical_text checked.event) (addressed os.journal d) (box.settled ++ landed b.log epoch box.unanswered) (front.0 ++ (box.waiting ++ events_of way.queue)) (taken_of ds.inbox os.name) events_are
+          (whole box.settled (unanswered_pdus box.unanswered) box.waiting (events_of way.queue) (landed b.log epoch box.unanswered) front.0 (addressed os.journal d) (laws.events d os.journal way b.held.follows) front.1);
       edus =
-          prefix canonical_text (addressed_edus os.journal d) (box.settled_edus ++ landed_edus b.log epoch box.unanswered) (front_edus.0 ++ (box.waiting_edus ++ edus_of lane.queue)) (taken_edus_of ds.inbox os.name) edus_are
-          (whole box.settled_edus (unanswered_edus box.unanswered) box.waiting_edus (edus_of lane.queue) (landed_edus b.log epoch box.unanswered) front_edus.0 (addressed_edus os.journal d)
-          (laws.edus d os.journal lane b.held.follows) front_edus.1);
+          prefix canonical_text (addressed_edus os.journal d) (box.settled_edus ++ landed_edus b.log epoch box.unanswered) (front_edus.0 ++ (box.waiting_edus ++ edus_of way.queue)) (taken_edus_of ds.inbox os.name) edus_are
+          (whole box.settled_edus (unanswered_edus box.unanswered) box.waiting_edus (edus_of way.queue) (landed_edus b.log epoch box.unanswered) front_edus.0 (addressed_edus os.journal d)
+          (laws.edus d os.journal way b.held.follows) front_edus.1);
       settled = omega (arith, settled_counts, events_count);
       settled_edus = omega (arith, settled_edus_counts, edus_count);
     }
@@ -79,6 +79,6 @@ pub all_delivered : (laws : Laws) (w : WorldState) → IsSound w → AllDelivere
 all_delivered laws w h o d origin dest of to apart =
     let is = h.servers o origin of in
     let within : d < length origin.ways = let below = slice_get_within w.servers d dest to in omega (arith, below, is.ways) in
-    let lane = listed origin.ways d within in
-    let way = there_way origin d lane.0 (record { apart = λ e. apart (sym (e ∙ is.own)); within = lt-ltb d (length origin.ways) within; is = lane.1 }) in
-    (is.name_is, (lane.0, way, delivered_between laws o d w.epoch origin dest lane.0 w.packets (h.pairs o d origin dest lane.0 of to way)))
+    let way = listed origin.ways d within in
+    let leads = there_way origin d way.0 (record { apart = λ e. apart (sym (e ∙ is.own)); within = lt-ltb d (length origin.ways) within; is = way.1 }) in
+    (is.name_is, (way.0, leads, delivered_between laws o d w.epoch origin dest way.0 w.packets (h.pairs o d origin dest way.0 of to leads)))

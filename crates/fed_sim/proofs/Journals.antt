@@ -40,7 +40,7 @@ use Rattle.fed_sim.specs.Steps.{Moves, collected, cut, posted, taken, settled, r
 use Rattle.fed_sim.specs.Ways.{way_to, with_way, IsOnWay}
 use Rattle.fed_sim.specs.World.{WorldState, with_server, AtServer, nowhere, somewhere, AtServerInPart, at_moment, max_moment, ticked}
 use Rattle.fed_sim.proofs.Between.{same_some, not_none, set_or_other}
-use Rattle.fed_sim.proofs.Lanes.{set_here}
+use Rattle.fed_sim.proofs.WayQueues.{set_here}
 use Rattle.fed_sim.proofs.Servers.{listed}
 use Rattle.fed_sim.proofs.Stored.{Grown, no_room, given, grown_same, grown_then, grown_set, received_grows, committed_grows, committed_inside, IsInside, inside_later, made_is}
 use Rattle.fed_sim.proofs.Offers.{with_entry, offer_cases, OfferCases, as_it_was, event_entered, edu_cases, EduCases, edu_as_it_was, edu_entered, close_cases, CloseCases, close_as_it_was, close_entered}
@@ -111,9 +111,9 @@ on_way_keeps : (d : ℕ) (step : Way → Outcome × Way) (told : Outcome) (befor
 on_way_keeps d step told before after is =
     subst (λ (s : ServerState). (s.journal ≡ before.journal) × Moved before s) (ap (λ (pair : Outcome × ServerState). pair.1) (sym is)) (by (way_to before d))
   where
-    by : (way : Option Way) → let s = (option_map_or {U = Outcome × ServerState} (λ lane. ((step lane).0, with_way before d (step lane).1)) way (outcome.NoSuchServer, before)).1 in (s.journal ≡ before.journal) × Moved before s
+    by : (leads : Option Way) → let s = (option_map_or {U = Outcome × ServerState} (λ way. ((step way).0, with_way before d (step way).1)) leads (outcome.NoSuchServer, before)).1 in (s.journal ≡ before.journal) × Moved before s
     by None = (refl, unmoved before)
-    by (Some lane) = (refl, same_rooms before (with_way before d (step lane).1) refl refl)
+    by (Some way) = (refl, same_rooms before (with_way before d (step way).1) refl refl)
 
 arrived_keeps : (place : ℕ) (told : Outcome) (before after : ServerState) → IsArrived place before told after → (after.journal ≡ before.journal) × Moved before after
 arrived_keeps place _ before _ (arriving.no_room none) = (refl, unmoved before)
@@ -133,10 +133,9 @@ given_keeps known id _ before _ (known_room told new place is arrives) = arrived
 posted_keeps : (server dest : ℕ) (w : WorldState) (told : Outcome) (new : WorldState) → IsPosted server dest w told new → Keeps w new
 posted_keeps server dest w _ _ (packets.no_sender none) = keeps_same w w refl refl
 posted_keeps server dest w _ _ (packets.no_way s is none) = keeps_same w w refl refl
-posted_keeps server dest w _ _ (packets.no_name none) = keeps_same w w refl refl
-posted_keeps server dest w _ _ (packets.nothing s lane on none) = keeps_same w w refl refl
-posted_keeps server dest w _ _ (packets.not_due s lane t on is early) = keeps_same w w refl refl
-posted_keeps server dest w _ _ (packets.posted s lane t name on unanswered due name_is readable) = keeps_same w _ refl refl
+posted_keeps server dest w _ _ (packets.nothing s way on none) = keeps_same w w refl refl
+posted_keeps server dest w _ _ (packets.not_due s way t on is early) = keeps_same w w refl refl
+posted_keeps server dest w _ _ (packets.posted s way t name on unanswered due name_is readable) = keeps_same w _ refl refl
 
 received_keeps : (before after : ServerState) → after ≡ with_taken before after → (after.journal ≡ before.journal) × Moved before after
 received_keeps before after is = (ap (λ s. s.journal) is, same_rooms before after (ap (λ s. s.own) is) (ap (λ s. s.rooms) is))

@@ -26,7 +26,7 @@ use Rattle.fed_sim.specs.Server.{ServerState}
 use Rattle.fed_sim.specs.Ways.{way_to, with_way, IsOnWay}
 use Rattle.fed_sim.specs.World.{WorldState, with_server, at_moment, max_moment, ticked}
 use Rattle.fed_sim.proofs.Offers.{ways_from, offer_cases, OfferCases, as_it_was, event_entered, edu_cases, EduCases, edu_as_it_was, edu_entered, close_cases, CloseCases, close_as_it_was, close_entered}
-use Rattle.fed_sim.proofs.LaneMoves.{Laws, IsSoundEdu, IsHeld, held_entered}
+use Rattle.fed_sim.proofs.WayMoves.{Laws, IsSoundEdu, IsHeld, held_entered}
 use Rattle.fed_sim.proofs.Between.{same_some, not_none, set_same, IsBetween, IsSound, WayTo, way_there, there_way, Stays, changed, changed_elsewhere, way_changed}
 
 -- ---- nothing is done
@@ -46,21 +46,21 @@ put_back w p before at h = subst IsSound (sym (same_world w p before at)) h
 
 -- ---- an entry of the journal
 
--- a lane of the longer journal is that of the shorter one, with what the entry places behind it
-lane_from : (n : ℕ) (entries : List Entry) (entry : Entry) (lanes : List Way) (d : ℕ) (lane : Way) → slice_get (ways_from n entries entry lanes) d ≡ Some lane
-    → (old : Way) × (slice_get lanes d ≡ Some old) × (lane ≡ record { queue = queue_after entries entry (n + d) old.queue; outbox = old.outbox })
-lane_from n entries entry [] d lane e = absurd (not_none lane e)
-lane_from n entries entry (l ∷ lanes) zero lane e =
+-- a way of the longer journal is that of the shorter one, with what the entry places behind it
+way_from : (n : ℕ) (entries : List Entry) (entry : Entry) (ways : List Way) (d : ℕ) (way : Way) → slice_get (ways_from n entries entry ways) d ≡ Some way
+    → (old : Way) × (slice_get ways d ≡ Some old) × (way ≡ record { queue = queue_after entries entry (n + d) old.queue; outbox = old.outbox })
+way_from n entries entry [] d way e = absurd (not_none way e)
+way_from n entries entry (l ∷ ways) zero way e =
     let at : n ≡ n + 0 = omega arith in
-    (l, refl, sym (same_some _ lane e) ∙ ap (λ k. record { queue = queue_after entries entry k l.queue; outbox = l.outbox }) at)
-lane_from n entries entry (l ∷ lanes) (suc d) lane e =
-    let later = lane_from (n + 1) entries entry lanes d lane e in
+    (l, refl, sym (same_some _ way e) ∙ ap (λ k. record { queue = queue_after entries entry k l.queue; outbox = l.outbox }) at)
+way_from n entries entry (l ∷ ways) (suc d) way e =
+    let later = way_from (n + 1) entries entry ways d way e in
     let at : n + 1 + d ≡ n + suc d = omega arith in
     (later.0, later.1, later.2 ∙ ap (λ k. record { queue = queue_after entries entry k later.0.queue; outbox = later.0.outbox }) at)
 
-length-ways_from : (n : ℕ) (entries : List Entry) (entry : Entry) (lanes : List Way) → length (ways_from n entries entry lanes) ≡ length lanes
+length-ways_from : (n : ℕ) (entries : List Entry) (entry : Entry) (ways : List Way) → length (ways_from n entries entry ways) ≡ length ways
 length-ways_from n entries entry [] = refl
-length-ways_from n entries entry (l ∷ lanes) = ap suc (length-ways_from (n + 1) entries entry lanes)
+length-ways_from n entries entry (l ∷ ways) = ap suc (length-ways_from (n + 1) entries entry ways)
 
 -- the ephemeral data unit of an entry can be taken, where there is one
 abbrev IsSoundEntry : Entry → Type 0
@@ -72,27 +72,27 @@ entered_sound journal x sound h = subst (All IsSoundEdu) (sym (filter_map-append
 module _ (laws : Laws) (w : WorldState) (p : ℕ) (before : ServerState) (at : slice_get w.servers p ≡ Some before) (h : IsSound w) where
   pub entered : (x : Entry) → IsSoundEntry x → (after : ServerState) → after.own ≡ before.own → after.name ≡ before.name → after.inbox ≡ before.inbox → after.journal ≡ before.journal ++ x ∷ []
       → after.ways ≡ ways_from 0 before.journal x before.ways → IsSound (with_server w p after)
-  entered x sound after own name inbox journal lanes = changed w p before at h after stays (λ d ds lane to way. by d ds lane to (way_there after d lane way))
+  entered x sound after own name inbox journal ways = changed w p before at h after stays (λ d ds way to leads. by d ds way to (way_there after d way leads))
     where
       stays : Stays w p before at h after
-      stays = record { own = own; name = name; inbox = inbox; ways = ap length lanes ∙ length-ways_from 0 before.journal x before.ways }
+      stays = record { own = own; name = name; inbox = inbox; ways = ap length ways ∙ length-ways_from 0 before.journal x before.ways }
 
-      by : (d : ℕ) (ds : ServerState) (lane : Way) → slice_get w.servers d ≡ Some ds → WayTo after d lane → IsBetween p d w.epoch after ds lane w.packets
-      by d ds lane to way =
-          let from = lane_from 0 before.journal x before.ways d lane (ap (λ l. slice_get l d) (sym lanes) ∙ way.is) in
+      by : (d : ℕ) (ds : ServerState) (way : Way) → slice_get w.servers d ≡ Some ds → WayTo after d way → IsBetween p d w.epoch after ds way w.packets
+      by d ds way to leads =
+          let from = way_from 0 before.journal x before.ways d way (ap (λ l. slice_get l d) (sym ways) ∙ leads.is) in
           let old = from.0 in
           let counted : 0 + d ≡ d = omega arith in
-          let lane_is = from.2 ∙ ap (λ k. record { queue = queue_after before.journal x k old.queue; outbox = old.outbox }) counted in
+          let way_is = from.2 ∙ ap (λ k. record { queue = queue_after before.journal x k old.queue; outbox = old.outbox }) counted in
           let b = h.pairs p d before ds old at to
-          (there_way before d old (record { apart = λ e. way.apart (e ∙ sym own); within = ap (λ n. nat_lt d n) (sym stays.ways) ∙ way.within; is = from.1 })) in
+          (there_way before d old (record { apart = λ e. leads.apart (e ∙ sym own); within = ap (λ n. nat_lt d n) (sym stays.ways) ∙ leads.within; is = from.1 })) in
           let now = held_entered laws p d w.epoch before.name ds.name b.log w.packets before.journal x old (entered_sound before.journal x sound b.held.sound) b.held in
           record {
             log = b.log;
             log_is = ap (λ n. log_at n ds.inbox.logs) name ∙ b.log_is;
             held =
-                subst (λ n. IsHeld p d w.epoch n ds.name after.journal lane b.log w.packets) (sym name)
-                (subst (λ j. IsHeld p d w.epoch before.name ds.name j lane b.log w.packets) (sym journal)
-                (subst (λ l. IsHeld p d w.epoch before.name ds.name (before.journal ++ x ∷ []) l b.log w.packets) (sym lane_is) now));
+                subst (λ n. IsHeld p d w.epoch n ds.name after.journal way b.log w.packets) (sym name)
+                (subst (λ j. IsHeld p d w.epoch before.name ds.name j way b.log w.packets) (sym journal)
+                (subst (λ l. IsHeld p d w.epoch before.name ds.name (before.journal ++ x ∷ []) l b.log w.packets) (sym way_is) now));
           }
 
   -- ---- what a server offers, and closes
@@ -157,21 +157,21 @@ module _ (w : WorldState) (p : ℕ) (before : ServerState) (at : slice_get w.ser
 
   -- what leaves every way as it has to be does so here
   abbrev Leaves : ℕ → (Way → Outcome × Way) → Type 0
-  Leaves d step = (lane : Way) (ds : ServerState) → slice_get w.servers d ≡ Some ds → way_to before d ≡ Some lane → (log : LogState) → log_at before.name ds.inbox.logs ≡ Some log
-      → IsHeld p d w.epoch before.name ds.name before.journal lane log w.packets → IsHeld p d w.epoch before.name ds.name before.journal (step lane).1 log w.packets
+  Leaves d step = (way : Way) (ds : ServerState) → slice_get w.servers d ≡ Some ds → way_to before d ≡ Some way → (log : LogState) → log_at before.name ds.inbox.logs ≡ Some log
+      → IsHeld p d w.epoch before.name ds.name before.journal way log w.packets → IsHeld p d w.epoch before.name ds.name before.journal (step way).1 log w.packets
 
   pub on_its_way : (d : ℕ) (step : Way → Outcome × Way) (told : Outcome) (after : ServerState) → Leaves d step → IsOnWay d step before told after → IsSound (with_server w p after)
   on_its_way d step told after leaves is = by (way_to before d) refl
     where
-      by : (way : Option Way) → way_to before d ≡ way → IsSound (with_server w p after)
+      by : (leads : Option Way) → way_to before d ≡ leads → IsSound (with_server w p after)
       by None none =
-          let same : after ≡ before = second_is told outcome.NoSuchServer after before (is ∙ ap (λ way. option_map_or (λ lane. ((step lane).0, with_way before d (step lane).1)) way (outcome.NoSuchServer, before)) none) in
+          let same : after ≡ before = second_is told outcome.NoSuchServer after before (is ∙ ap (λ leads. option_map_or (λ way. ((step way).0, with_way before d (step way).1)) leads (outcome.NoSuchServer, before)) none) in
           subst (λ s. IsSound (with_server w p s)) (sym same) (put_back w p before at h)
-      by (Some lane) there =
-          let same : after ≡ with_way before d (step lane).1 =
-          second_is told (step lane).0 after (with_way before d (step lane).1) (is ∙ ap (λ way. option_map_or (λ l. ((step l).0, with_way before d (step l).1)) way (outcome.NoSuchServer, before)) there) in
+      by (Some way) there =
+          let same : after ≡ with_way before d (step way).1 =
+          second_is told (step way).0 after (with_way before d (step way).1) (is ∙ ap (λ leads. option_map_or (λ l. ((step l).0, with_way before d (step l).1)) leads (outcome.NoSuchServer, before)) there) in
           subst (λ s. IsSound (with_server w p s)) (sym same)
-          (way_changed w p before at h d lane (step lane).1 there (λ ds to log log_is held. leaves lane ds to there log log_is held))
+          (way_changed w p before at h d way (step way).1 there (λ ds to log log_is held. leaves way ds to there log log_is held))
 
 -- ---- the moment
 

@@ -1,12 +1,14 @@
 pub mod Fresh
 pub mod Places
 pub mod Offers
-pub mod Lanes
+pub mod WayQueues
 pub mod Servers
 pub mod Arrivals
 pub mod OnWays
 pub mod Rooms
 pub mod Worlds
+pub mod OfRuns
+pub mod Shapes
 pub mod Packets
 pub mod Reaching
 pub mod Built
@@ -14,7 +16,7 @@ pub mod Options
 pub mod Ids
 pub mod Comings
 pub mod Landing
-pub mod LaneMoves
+pub mod WayMoves
 pub mod Between
 pub mod Lasting
 pub mod Statuses

@@ -11,7 +11,7 @@ use Rattle.fed_sim.specs.declared.outcome.Outcome.TheVariants.{NoSuchServer}
 use Rattle.fed_sim.specs.Way.{WayState, ways_of}
 use Rattle.fed_sim.specs.Server.{ServerState}
 use Rattle.fed_sim.specs.Ways.{has_way, way_to, with_way, on_way}
-use Rattle.fed_sim.proofs.Lanes.{same_seen}
+use Rattle.fed_sim.proofs.WayQueues.{same_seen}
 use Rattle.fed_sim.proofs.Servers.{server_at, same_at}
 
 pub second : (a b : Bool) → (a && b) ≡ true → b ≡ true
@@ -34,10 +34,10 @@ module _ (d : ℕ) (s : ServerState) (ways : List WayState) (are : s.ways ≡ wa
   pub way_made : (step : Way → Outcome × Way) (told : Outcome) → has_way s d ≡ true → told ≡ (step way.way).0 → new.way ≡ (step way.way).1
       → (told, server_at s s.rooms s.arrivals s.journal (ways_of (set ways k new))) ≡ on_way d step s
   way_made step told has tells gives =
-      let lanes : ways_of (set ways k new) ≡ set s.ways d (step way.way).1 =
+      let changed : ways_of (set ways k new) ≡ set s.ways d (step way.way).1 =
       map-set (λ (l : WayState). l.way) ways k new ∙ (λ i. set (sym are i) (at i) (gives i)) in
-      (λ i. (tells i, server_at s s.rooms s.arrivals s.journal (lanes i)))
-      ∙ ap (λ way. option_map_or (λ lane. ((step lane).0, with_way s d (step lane).1)) way (NoSuchServer, s)) (sym (way_is has))
+      (λ i. (tells i, server_at s s.rooms s.arrivals s.journal (changed i)))
+      ∙ ap (λ way. option_map_or (λ way. ((step way).0, with_way s d (step way).1)) way (NoSuchServer, s)) (sym (way_is has))
 
   -- what others see of it is as it was
   pub way_kept : new.way ≡ way.way → server_at s s.rooms s.arrivals s.journal (ways_of (set ways k new)) ≡ s

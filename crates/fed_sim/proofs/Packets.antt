@@ -1,24 +1,26 @@
 -- Packets as they are sent and found.
 use Rattle.std.proofs.Common.{arith, ◌≡◌, ℕ, zero, suc, ◌-◌, ◌<◌, ◌&&◌, Bool, true, false, true≢false, nat_lt, nat_le, List, [], ◌∷◌, ◌++◌, length, map, set, get_or, Option, Some, None, IfSome, IfNone, Result, Ok, Err, refl, sym, ap, ◌∙◌, subst, if◌then◌else◌}
-use Rattle.std.specs.Option.{option_map}
+use Rattle.std.specs.List.{slice_get}
+use Rattle.std.specs.Option.{option_map, option_and_then}
 use Rattle.std.specs.Result.{is_ok}
 use Rattle.std.proofs.lemmas.Bool.{leb-true, leb-false, lt-ltb}
 use Rattle.std.proofs.lemmas.List.{length-map, map-append}
-use Rattle.std.proofs.lemmas.Option.{slice_get-map, slice_get-get_or, slice_get_past, same_Some, none-some}
+use Rattle.std.proofs.lemmas.Option.{slice_get-map, slice_get-get_or, slice_get_past, slice_get_within, same_Some, none-some}
 use Rattle.fed_http.specs.Message.{RequestValue}
 use Rattle.fed_inbox.specs.Reply.{Answer}
 use Rattle.fed_exchange.specs.Messages.{IsRequestIn, HasNoRequest}
 use Rattle.fed_sim.specs.declared.outcome.Outcome.{Outcome}
 use Rattle.fed_sim.specs.declared.packet.Packet.{Packet}
 use Rattle.fed_sim.specs.declared.server.Server.{Server}
-use Rattle.fed_sim.specs.Way.{WayState}
-use Rattle.fed_sim.specs.Packets.{packet_at, NoRequestAt, NoAnswerAt, with_packet, IsOn}
+use Rattle.fed_sim.specs.Packets.{packet_at, NoRequestAt, NoAnswerAt, with_packet, way_from}
+use Rattle.fed_outbox.specs.Collecting.{Way}
+use Rattle.fed_sim.specs.Server.{ServerState}
 use Rattle.fed_sim.specs.ServerParts.{server_of}
-use Rattle.fed_sim.specs.Ways.{has_way}
+use Rattle.fed_sim.specs.Ways.{way_to}
 use Rattle.fed_sim.specs.World.{PacketState, request, answer, WorldState, with_server}
 use Rattle.fed_sim.specs.WorldParts.{packet_of}
-use Rattle.fed_sim.proofs.OnWays.{second, way_is}
-use Rattle.fed_sim.proofs.Worlds.{world_at, server_is, afterwards}
+use Rattle.fed_sim.proofs.OnWays.{second}
+use Rattle.fed_sim.proofs.Worlds.{seen_of, world_at}
 
 abbrev pub sent_of : Packet → PacketState
 sent_of p = packet_of p
@@ -61,13 +63,13 @@ one_more w old new p q more is =
     let all : map sent_of new ≡ map sent_of old ++ q ∷ [] = ap (map sent_of) more ∙ map-append sent_of old (p ∷ []) ∙ ap (λ x. map sent_of old ++ x ∷ []) is in
     λ i. record { names = w.names; known = w.known; epoch = w.epoch; servers = w.servers; packets = sym all i; now = w.now }
 
--- the way from a server to a destination
-pub is_on : (w : WorldState) (servers : List Server) (server k : ℕ) (at : k ≡ server) (before : Server) (value : before ≡ get_or servers k before) (listed : nat_lt server (length servers) ≡ true)
-    (dest j : ℕ) (to : j ≡ dest) (way : WayState) (is : way ≡ get_or before.ways.items j way) → has_way (server_of before) dest ≡ true → IsOn (world_at w servers) server dest (server_of before) way.way
-is_on w servers server k at before value listed dest j to way is has = record {
-  server_is = server_is w servers server k at before before value listed;
-  way_is = way_is dest (server_of before) before.ways.items refl j to way way is has;
-}
+-- a server is listed from which there is a way
+pub sender_listed : (w : WorldState) (server dest : ℕ) (way : Way) → way_from w server dest ≡ Some way → server < length w.servers
+sender_listed w server dest way is = by (slice_get w.servers server) refl is
+  where
+    by : (s : Option ServerState) → slice_get w.servers server ≡ s → option_and_then (λ s. way_to s dest) s ≡ Some way → server < length w.servers
+    by None none e = absurd (none-some way e)
+    by (Some s) there e = slice_get_within w.servers server s there
 
 -- another outcome and another world that are the same
 pub same_told : (P : Outcome → WorldState → Type 0) (a b : Outcome) (v w : WorldState) → a ≡ b → v ≡ w → P a v → P b w
@@ -83,13 +85,16 @@ one_read bytes None r is told = absurd (cc)
 one_read bytes (Some q) r is told = subst (IsRequestIn bytes) (same_Some q r is) told
 
 -- a server was given a request, and its answer was sent
-pub answered_then : (w : WorldState) (servers : List Server) (place k : ℕ) (at : k ≡ place) (before after : Server) (value : before ≡ get_or servers k before)
-    (old new : List Packet) (p : Packet) (q : PacketState) → new ≡ old ++ p ∷ [] → packet_of p ≡ q
-    → with_packet (with_server (packets_at (world_at w servers) old) place (server_of after)) q ≡ packets_at (world_at w (set servers k after)) new
-answered_then w servers place k at before after value old new p q more is =
+pub answered_then : (w : WorldState) (servers now : List Server) (place : ℕ) (after : Server) → set (map seen_of servers) place (server_of after) ≡ map seen_of now → (old new : List Packet) (p : Packet) (q : PacketState)
+    → new ≡ old ++ p ∷ [] → packet_of p ≡ q → with_packet (with_server (packets_at (world_at w servers) old) place (server_of after)) q ≡ packets_at (world_at w now) new
+answered_then w servers now place after states old new p q more is =
     let all : map sent_of new ≡ map sent_of old ++ q ∷ [] = ap (map sent_of) more ∙ map-append sent_of old (p ∷ []) ∙ ap (λ x. map sent_of old ++ x ∷ []) is in
-    let states = afterwards w servers place k at before after value in
     λ i. record { names = w.names; known = w.known; epoch = w.epoch; servers = states i; packets = sym all i; now = w.now }
+
+-- a packet may have been pushed
+pub pushed : (P : List Packet → Type 0) (b : Bool) (old more new : List Packet) → new ≡ (if b then more else old) → (new ≡ more → P new) → P old → P new
+pushed P true old more new is grown same = grown is
+pushed P false old more new is grown same = subst P (sym is) same
 
 -- it was pushed
 pub if_ok : {T E A : Type 0} (r : Result T E) (x : T) (xs a b : A) → r ≡ Ok x → xs ≡ (if is_ok r then a else b) → xs ≡ a

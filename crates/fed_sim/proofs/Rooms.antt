@@ -12,7 +12,7 @@ use Rattle.fed_sim.specs.declared.outcome.Outcome.TheVariants as outcome
 use Rattle.fed_sim.specs.Arriving.{with_room, IsNext, IsArrived, IsArrivedInPart, no_room, nothing, arrived, same, in_part}
 use Rattle.fed_sim.specs.Hosted.{HostedState, IsSame, IsGiven, rooms_of, arrivals_of}
 use Rattle.fed_sim.specs.Server.{ServerState}
-use Rattle.fed_sim.proofs.Lanes.{same_seen}
+use Rattle.fed_sim.proofs.WayQueues.{same_seen}
 use Rattle.fed_sim.proofs.Servers.{server_at, same_parts}
 
 -- a server with these rooms

@@ -9,7 +9,7 @@ use Rattle.fed_sim.specs.Server.{ServerState}
 use Rattle.fed_sim.specs.Steps.{Moves, collected, cut, posted, taken, settled, given, risen, Reached, no_step, one_more, ReachedInPart, before_it, in_it, Does, Leaves, Makes, made, refused, Ran, begun, next}
 use Rattle.fed_sim.specs.Ways.{IsOnWay, collecting, cutting, failing}
 use Rattle.fed_sim.specs.World.{WorldState, with_server, AtServer, nowhere, somewhere, AtServerInPart}
-use Rattle.fed_sim.proofs.LaneMoves.{Laws, held_collected, held_cut, held_failed}
+use Rattle.fed_sim.proofs.WayMoves.{Laws, held_collected, held_cut, held_failed}
 use Rattle.fed_sim.proofs.Between.{IsSound}
 use Rattle.fed_sim.proofs.Lasting.{offered, edu_offered, closed_for, arrived_so, arrived_in_part, given_to, on_its_way, ticked_so}
 use Rattle.fed_sim.proofs.Posting.{posted_lasts, settled_lasts}
@@ -32,20 +32,20 @@ module _ (laws : Laws) where
   collects : (server dest : ℕ) (w : WorldState) (told : Outcome) (new : WorldState) → AtServer server (IsOnWay dest collecting) w told new → IsSound w → IsSound new
   collects server dest w told new does h =
       at_server server (IsOnWay dest collecting) w told new
-      (λ out before after at way. on_its_way w server before at h dest collecting out after
-      (λ lane ds to there log log_is held. held_collected laws server dest w.epoch before.name ds.name log w.packets before.journal lane held) way) does h
+      (λ out before after at leads. on_its_way w server before at h dest collecting out after
+      (λ way ds to there log log_is held. held_collected laws server dest w.epoch before.name ds.name log w.packets before.journal way held) leads) does h
 
   cuts : (server dest : ℕ) (w : WorldState) (told : Outcome) (new : WorldState) → AtServer server (IsOnWay dest (cutting w.now)) w told new → IsSound w → IsSound new
   cuts server dest w told new does h =
       at_server server (IsOnWay dest (cutting w.now)) w told new
-      (λ out before after at way. on_its_way w server before at h dest (cutting w.now) out after
-      (λ lane ds to there log log_is held. held_cut laws server dest w.epoch before.name ds.name log w.packets before.journal w.now h.moment lane held) way) does h
+      (λ out before after at leads. on_its_way w server before at h dest (cutting w.now) out after
+      (λ way ds to there log log_is held. held_cut laws server dest w.epoch before.name ds.name log w.packets before.journal w.now h.moment way held) leads) does h
 
   fails : (server dest : ℕ) (w : WorldState) (told : Outcome) (new : WorldState) → AtServer server (IsOnWay dest (failing w.now)) w told new → IsSound w → IsSound new
   fails server dest w told new does h =
       at_server server (IsOnWay dest (failing w.now)) w told new
-      (λ out before after at way. on_its_way w server before at h dest (failing w.now) out after
-      (λ lane ds to there log log_is held. held_failed laws server dest w.epoch before.name ds.name log w.packets before.journal w.now lane held) way) does h
+      (λ out before after at leads. on_its_way w server before at h dest (failing w.now) out after
+      (λ way ds to there log log_is held. held_failed laws server dest w.epoch before.name ds.name log w.packets before.journal w.now way held) leads) does h
 
   -- ---- the steps of a round of calm
 

@@ -21,16 +21,16 @@ use Rattle.fed_journal.specs.Offering.{has_place, open_among}
 use Rattle.fed_sim.specs.Sending.{fits, entered_told}
 use Rattle.fed_sim.specs.Server.{ServerState}
 
--- other rooms, another journal, and other lanes
+-- other rooms, another journal, and other ways
 abbrev pub server_at : ServerState → List RoomState → List (List CheckedEvent) → List Entry → List Way → ServerState
-server_at s rooms arrivals journal lanes = record { own = s.own; name = s.name; rooms = rooms; arrivals = arrivals; journal = journal; ways = lanes; inbox = s.inbox }
+server_at s rooms arrivals journal ways = record { own = s.own; name = s.name; rooms = rooms; arrivals = arrivals; journal = journal; ways = ways; inbox = s.inbox }
 
 pub same_parts : (s : ServerState) (q r : List RoomState) (m n : List (List CheckedEvent)) (a b : List Entry) (xs ys : List Way) → q ≡ r → m ≡ n → a ≡ b → xs ≡ ys
     → server_at s q m a xs ≡ server_at s r n b ys
-same_parts s q r m n a b xs ys rooms arrivals journal lanes = λ i. server_at s (rooms i) (arrivals i) (journal i) (lanes i)
+same_parts s q r m n a b xs ys rooms arrivals journal ways = λ i. server_at s (rooms i) (arrivals i) (journal i) (ways i)
 
 pub same_at : (s : ServerState) (a b : List Entry) (xs ys : List Way) → a ≡ b → xs ≡ ys → server_at s s.rooms s.arrivals a xs ≡ server_at s s.rooms s.arrivals b ys
-same_at s a b xs ys journal lanes = same_parts s s.rooms s.rooms s.arrivals s.arrivals a b xs ys refl refl journal lanes
+same_at s a b xs ys journal ways = same_parts s s.rooms s.rooms s.arrivals s.arrivals a b xs ys refl refl journal ways
 
 -- an element stands at each place that is not past the end
 pub listed : {X : Type 0} (xs : List X) (i : ℕ) → i < length xs → (x : X) × (slice_get xs i ≡ Some x)

@@ -1,5 +1,15 @@
 -- Rooms that start, and rooms that do not.
-use Rattle.std.proofs.Common.{◌≡◌, ◌≢◌, ℕ, List, length, Some, None, Ok, Err, sym, subst, ◌∙◌}
+use Rattle.std.proofs.Common.{◌≡◌, ◌≢◌, ℕ, List, [], length, map, string_bytes, String, Global, Some, None, Ok, Err, refl, sym, ap, subst, ◌∙◌}
+use Rattle.std.specs.List.Sorted.{IsPermutation}
+use Rattle.std.proofs.lemmas.List.{length-map}
+use Rattle.fed_dest.specs.ListParts.{AreInOrder}
+use Rattle.fed_sim.specs.declared.packet.Packet.{Packet}
+use Rattle.fed_sim.specs.declared.server.Server.{Server}
+use Rattle.fed_sim.specs.declared.setup.Setup.{Setup}
+use Rattle.fed_sim.specs.WorldFields.{world_with}
+use Rattle.fed_sim.proofs.Built.{mapped}
+use Rattle.fed_sim.proofs.Packets.{sent_of}
+use Rattle.fed_sim.proofs.Worlds.{seen_of}
 use Rattle.std.specs.Prelude.{slice_get}
 use Rattle.fed_event.specs.Checked.{CheckedEvent}
 use Rattle.fed_room.specs.Creation.{started_of}
@@ -14,7 +24,7 @@ use Rattle.fed_sim.specs.declared.setup.SimFault.TheVariants.{BadSetup}
 use Rattle.fed_sim.specs.Hosted.{HostedState}
 use Rattle.fed_sim.specs.NewServer.{IsNewServer}
 use Rattle.fed_sim.specs.Offering.{signer_named}
-use Rattle.fed_sim.specs.Running.{IsBegun, IsBeginning, HasNoStart}
+use Rattle.fed_sim.specs.Running.{Begins, IsBegun, IsBeginning, HasNoStart}
 use Rattle.fed_sim.specs.Server.{ServerState}
 use Rattle.fed_sim.specs.Setup.{id_of, users_of, sim_fault_of_started, sim_fault_of_start}
 use Rattle.fed_sim.proofs.Between.{same_some}
@@ -68,4 +78,22 @@ is_beginning names known setups place s hosted own count new named begun = recor
   count = count;
   new = new;
   begun = λ k h there setup is. subst (λ name. IsBegun names name setup h) (same_some own new.name (sym named ∙ new.name_is)) (begun k h there setup is);
+}
+
+-- a world of new servers begins with the setup
+pub begins_so : (setup : Setup) (names : List (List ℕ)) (known : List (String Global)) (servers : List Server) (packets : List Packet) → IsPermutation setup.servers.items names → AreInOrder names
+    → map string_bytes known ≡ map (λ (r : RoomSetup). string_bytes r.id) setup.rooms.items → length servers ≡ length names
+    → ((k : ℕ) (s : Server) → slice_get servers k ≡ Some s → IsBeginning names (map string_bytes known) setup.rooms.items k (seen_of s)) → packets ≡ []
+    → Begins setup (world_with names known setup.epoch servers packets 0)
+begins_so setup names known servers packets permuted order ids count each none = record {
+  names = permuted;
+  order = order;
+  known = ids;
+  epoch = refl;
+  count = length-map servers seen_of ∙ count;
+  servers = λ k s here.
+      let found = mapped seen_of servers k s here in
+      subst (λ (t : ServerState). IsBeginning names (map string_bytes known) setup.rooms.items k t) found.2 (each k found.0 found.1);
+  packets = ap (map sent_of) none;
+  now = refl;
 }

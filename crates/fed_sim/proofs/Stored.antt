@@ -26,7 +26,7 @@ use Rattle.fed_room.specs.Room.{room_rules}
 use Rattle.fed_room.specs.RoomLawful.{room_lawful}
 use Rattle.fed_dest.specs.Joined.{AreDestinations}
 use Rattle.fed_dest.proofs.Stays.{destinations_stay}
-use Rattle.fed_sim.proofs.Lanes.{set_here, set_there}
+use Rattle.fed_sim.proofs.WayQueues.{set_here, set_there}
 
 -- ---- rooms that are given something
 

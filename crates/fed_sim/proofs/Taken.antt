@@ -34,7 +34,7 @@ use Rattle.fed_sim.proofs.Servers.{listed}
 use Rattle.fed_exchange.proofs.Sent as sent
 use Rattle.fed_sim.proofs.Comings.{Comes, nothing, again, first, HasTaken, whole}
 use Rattle.fed_sim.proofs.Landing.{texts, last_or_before, IsForeign, IsRequestOf, IsAnswerOf, kept_for, Lands, lands_answered, lands_taken}
-use Rattle.fed_sim.proofs.LaneMoves.{IsHeld, sent_of}
+use Rattle.fed_sim.proofs.WayMoves.{IsHeld, sent_of}
 use Rattle.fed_sim.proofs.Between.{same_some, not_none, set_or_other, IsServerAt, IsWay, IsBetween, IsSound, way_there, there_way}
 use Rattle.fed_sim.proofs.Posting.{held_foreign}
 use Rattle.fed_sim.proofs.Delivered.{same_texts}
@@ -69,24 +69,24 @@ module _ (w : WorldState) (h : IsSound w) (k server dest n : ℕ) (bytes : List 
     ds_is : IsServerAt w.names (length w.servers) dest before
     ds_is = h.servers dest before at
 
-    pub lane_there : (lane : Way) × (slice_get os.ways dest ≡ Some lane)
-    lane_there = listed os.ways dest (let to = is_way.to in omega (arith, to, os_is.ways))
+    pub way_listed : (way : Way) × (slice_get os.ways dest ≡ Some way)
+    way_listed = listed os.ways dest (let to = is_way.to in omega (arith, to, os_is.ways))
 
-    abbrev pub lane : Way
-    lane = lane_there.0
+    abbrev pub way : Way
+    way = way_listed.0
 
-    way_is : way_to os dest ≡ Some lane
+    way_is : way_to os dest ≡ Some way
     way_is =
-        there_way os dest lane (record {
+        there_way os dest way (record {
           apart = λ e. is_way.apart (e ∙ os_is.own);
           within = lt-ltb dest (length os.ways) (let to = is_way.to in omega (arith, to, os_is.ways));
-          is = lane_there.1;
+          is = way_listed.1;
         })
 
-    pub between : IsBetween server dest w.epoch os before lane w.packets
-    between = h.pairs server dest os before lane of at way_is
+    pub between : IsBetween server dest w.epoch os before way w.packets
+    between = h.pairs server dest os before way of at way_is
 
-    pub asks : IsRequestOf os.name before.name w.epoch (sent_of lane.outbox) between.log n bytes
+    pub asks : IsRequestOf os.name before.name w.epoch (sent_of way.outbox) between.log n bytes
     asks = between.held.lands.requests k n bytes packet
 
     -- its bytes begin with a request
@@ -127,8 +127,8 @@ module _ (w : WorldState) (h : IsSound w) (k server dest n : ℕ) (bytes : List 
       journal_stays : after.journal ≡ before.journal
       journal_stays = ap (λ s. s.journal) is.others
 
-      lanes_stay : after.ways ≡ before.ways
-      lanes_stay = ap (λ s. s.ways) is.others
+      ways_stay : after.ways ≡ before.ways
+      ways_stay = ap (λ s. s.ways) is.others
 
       inbox_own : after.inbox.own ≡ before.inbox.own
       inbox_own = by comes
@@ -154,7 +154,7 @@ module _ (w : WorldState) (h : IsSound w) (k server dest n : ℕ) (bytes : List 
       record Landed : Type 0 where
         log : LogState
         log_is : log_at os.name after.inbox.logs ≡ Some log
-        lands : Lands server dest w.epoch os.name before.name (sent_of lane.outbox) log (w.packets ++ one ∷ [])
+        lands : Lands server dest w.epoch os.name before.name (sent_of way.outbox) log (w.packets ++ one ∷ [])
 
       kept_is : (kept : List ℕ) → finite.get between.log.replies (txn_id w.epoch asks.t.number) ≡ Some kept → kept_for between.log w.epoch n ≡ Some kept
       kept_is kept has = rw (lt-ltb n (2 ^ 64) small) (ap (finite.get between.log.replies) (sym same_numbers) ∙ has)
@@ -162,8 +162,8 @@ module _ (w : WorldState) (h : IsSound w) (k server dest n : ℕ) (bytes : List 
       not_kept : finite.get between.log.replies (txn_id w.epoch asks.t.number) ≡ None → (o : Option (List ℕ)) → kept_for between.log w.epoch n ≡ o → o ≡ None
       not_kept none o e = sym e ∙ rw (lt-ltb n (2 ^ 64) small) (ap (finite.get between.log.replies) (sym same_numbers) ∙ none)
 
-      unanswered : finite.get between.log.replies (txn_id w.epoch asks.t.number) ≡ None → ((given : List ℕ) × (kept_for between.log w.epoch n ≡ Some given)) ⊎ (lane.outbox.unanswered ≡ Some asks.t)
-          → lane.outbox.unanswered ≡ Some asks.t
+      unanswered : finite.get between.log.replies (txn_id w.epoch asks.t.number) ≡ None → ((given : List ℕ) × (kept_for between.log w.epoch n ≡ Some given)) ⊎ (way.outbox.unanswered ≡ Some asks.t)
+          → way.outbox.unanswered ≡ Some asks.t
       unanswered none (inl (given, kept)) = absurd (not_none given (sym (not_kept none (Some given) kept)))
       unanswered none (inr it) = it
 
@@ -174,7 +174,7 @@ module _ (w : WorldState) (h : IsSound w) (k server dest n : ℕ) (bytes : List 
           without given same = record {
             log = between.log;
             log_is = ap (λ i. log_at os.name i.logs) same ∙ between.log_is;
-            lands = lands_answered server dest w.epoch os.name before.name (sent_of lane.outbox) between.log w.packets n reply given between.held.lands;
+            lands = lands_answered server dest w.epoch os.name before.name (sent_of way.outbox) between.log w.packets n reply given between.held.lands;
           }
 
           by : Comes (txn_id w.epoch asks.t.number) os.name taking between.log before.inbox reply after.inbox is.taken.fresh → Landed
@@ -184,9 +184,9 @@ module _ (w : WorldState) (h : IsSound w) (k server dest n : ℕ) (bytes : List 
             log = with_taking between.log (txn_id w.epoch asks.t.number) taking;
             log_is = takes.now;
             lands =
-                subst (λ p. Lands server dest w.epoch os.name before.name (sent_of lane.outbox) (with_taking between.log (txn_id w.epoch asks.t.number) taking) (w.packets ++ p ∷ []))
+                subst (λ p. Lands server dest w.epoch os.name before.name (sent_of way.outbox) (with_taking between.log (txn_id w.epoch asks.t.number) taking) (w.packets ++ p ∷ []))
                 (λ i. answer server dest (asks.number_is i) (sym said i))
-                (lands_taken server dest w.epoch os.name before.name (sent_of lane.outbox) between.log w.packets before.inbox.rooms asks.t asks.takable asks.readable.number_fits none (unanswered none asks.alive)
+                (lands_taken server dest w.epoch os.name before.name (sent_of way.outbox) between.log w.packets before.inbox.rooms asks.t asks.takable asks.readable.number_fits none (unanswered none asks.alive)
                 between.held.lands);
           }
 
@@ -210,7 +210,7 @@ module _ (w : WorldState) (h : IsSound w) (k server dest n : ℕ) (bytes : List 
             name_is = ds_is.name_is ∙ ap Some (sym name_stays);
             named = subst IsServerName (sym name_stays) ds_is.named;
             inbox_own = inbox_own ∙ ds_is.inbox_own ∙ sym name_stays;
-            ways = ap length lanes_stay ∙ ds_is.ways;
+            ways = ap length ways_stay ∙ ds_is.ways;
           }
 
           placed : (j : ℕ) (s : ServerState) → ((j ≡ dest) × (after ≡ s)) ⊎ ((j ≢ dest) × (slice_get w.servers j ≡ Some s)) → IsServerAt w.names (length (set w.servers dest after)) j s
@@ -235,18 +235,18 @@ module _ (w : WorldState) (h : IsSound w) (k server dest n : ℕ) (bytes : List 
           to_it : (o : ℕ) (s : ServerState) (l : Way) → slice_get w.servers o ≡ Some s → way_to s dest ≡ Some l → (o ≡ server) ⊎ (o ≢ server) → IsBetween o dest w.epoch s after l (w.packets ++ one ∷ [])
           to_it o s l eo there (inl from) =
               let same_server : os ≡ s = same_some os s (sym of ∙ ap (slice_get w.servers) (sym from) ∙ eo) in
-              let same_lane : lane ≡ l = same_some lane l (sym way_is ∙ ap (λ x. way_to x dest) same_server ∙ there) in
-              let main : IsBetween server dest w.epoch os after lane (w.packets ++ one ∷ []) = record {
+              let same_way : way ≡ l = same_some way l (sym way_is ∙ ap (λ x. way_to x dest) same_server ∙ there) in
+              let main : IsBetween server dest w.epoch os after way (w.packets ++ one ∷ []) = record {
                 log = landed_so.log;
                 log_is = landed_so.log_is;
                 held = record {
                   sound = between.held.sound;
                   follows = between.held.follows;
-                  lands = subst (λ x. Lands server dest w.epoch os.name x (sent_of lane.outbox) landed_so.log (w.packets ++ one ∷ [])) (sym name_stays) landed_so.lands;
+                  lands = subst (λ x. Lands server dest w.epoch os.name x (sent_of way.outbox) landed_so.log (w.packets ++ one ∷ [])) (sym name_stays) landed_so.lands;
                 };
               } in
               subst (λ a. IsBetween a dest w.epoch s after l (w.packets ++ one ∷ [])) (sym from)
-              (subst (λ x. IsBetween server dest w.epoch x after l (w.packets ++ one ∷ [])) same_server (subst (λ y. IsBetween server dest w.epoch os after y (w.packets ++ one ∷ [])) same_lane main))
+              (subst (λ x. IsBetween server dest w.epoch x after l (w.packets ++ one ∷ [])) same_server (subst (λ y. IsBetween server dest w.epoch os after y (w.packets ++ one ∷ [])) same_way main))
           to_it o s l eo there (inr other) =
               let b = held_foreign o dest w.epoch s before l w.packets one (elsewhere o dest (λ same. other (sym same.0))) (h.pairs o dest s before l eo at there) in
               let apart : s.name ≢ os.name = λ e. other (h.distinct o server s.name (h.servers o s eo).name_is (os_is.name_is ∙ ap Some (sym e))) in
@@ -259,8 +259,8 @@ module _ (w : WorldState) (h : IsSound w) (k server dest n : ℕ) (bytes : List 
           -- from the receiver
           from_it : (d : ℕ) (ds : ServerState) (l : Way) → slice_get w.servers d ≡ Some ds → way_to after d ≡ Some l → IsBetween dest d w.epoch after ds l (w.packets ++ one ∷ [])
           from_it d ds l ed there =
-              let way = way_there after d l there in
-              let old_way = there_way before d l (record { apart = λ e. way.apart (e ∙ sym own_stays); within = ap (λ x. nat_lt d (length x)) (sym lanes_stay) ∙ way.within; is = ap (λ x. slice_get x d) (sym lanes_stay) ∙ way.is }) in
+              let leads = way_there after d l there in
+              let old_way = there_way before d l (record { apart = λ e. leads.apart (e ∙ sym own_stays); within = ap (λ x. nat_lt d (length x)) (sym ways_stay) ∙ leads.within; is = ap (λ x. slice_get x d) (sym ways_stay) ∙ leads.is }) in
               let b = held_foreign dest d w.epoch before ds l w.packets one (elsewhere dest d (λ same. is_way.apart (sym same.0))) (h.pairs dest d before ds l at ed old_way) in
               record {
                 log = b.log;
@@ -325,7 +325,7 @@ module _ (w : WorldState) (h : IsSound w) (k server dest n : ℕ) (bytes : List 
               let it = given_before earlier was in
               it.1 ∙ ap accepted (same_some it.0 kept (sym it.2 ∙ kept_is kept has)) ∙ sym said))
           by (first none said takes fresh) =
-              answers.first reply after os lane asks.t
+              answers.first reply after os way asks.t
               (λ earlier was. let it = given_before earlier was in not_none it.0 (sym (not_kept none (Some it.0) it.2)))
               (ap (λ (a : Answer). a.status) said) (record { server_is = of; way_is = way_is }) (unanswered none asks.alive) asks.number_is asks.bytes_are (all_taken none takes)
 

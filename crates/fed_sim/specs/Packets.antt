@@ -54,7 +54,6 @@ request_for w server s dest name t = request server dest t.number (bytes_sent (a
 pub data IsPosted (server dest : ℕ) (old : WorldState) : Outcome → WorldState → Type 0 where
   no_sender : slice_get old.servers server ≡ None → IsPosted server dest old NoSuchServer old
   no_way : (s : ServerState) → slice_get old.servers server ≡ Some s → way_to s dest ≡ None → IsPosted server dest old NoSuchServer old
-  no_name : slice_get old.names dest ≡ None → IsPosted server dest old NoSuchServer old
   nothing : (s : ServerState) (way : Way) → IsOn old server dest s way → way.outbox.unanswered ≡ None → IsPosted server dest old NothingToPost old
   not_due : (s : ServerState) (way : Way) (t : TransactionValue) → IsOn old server dest s way → way.outbox.unanswered ≡ Some t
       → is_due way.outbox old.now ≡ false → IsPosted server dest old (NotDue way.outbox.due_at) old

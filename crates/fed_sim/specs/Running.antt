@@ -67,3 +67,10 @@ pub record IsRun (setup : Setup) (steps : List Step) (replies : List Outcome) (n
   pub begin : WorldState
   pub begins : Begins setup begin
   pub ran : Ran begin steps replies new
+
+-- A world that comes of a run: by some list of steps, from the beginning of some setup.
+pub record ComesOfRun (w : WorldState) : Type 0 where
+  pub setup : Setup
+  pub steps : List Step
+  pub replies : List Outcome
+  pub ran : IsRun setup steps replies w

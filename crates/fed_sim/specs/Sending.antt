@@ -1,5 +1,6 @@
 -- How parcels get on their ways.
-use Rattle.std.specs.Prelude.{◌≡◌, ◌≤◌, ◌+◌, ◌==◌, ℕ, Bool, List, [], ◌∷◌, ◌++◌, filter, length, Option, Some, None, slice_get, if◌then◌else◌}
+use Rattle.std.specs.Prelude.{◌≡◌, ◌≤◌, ◌<◌, ◌+◌, ◌==◌, ℕ, Bool, true, List, [], ◌∷◌, ◌++◌, filter, length, Option, Some, None, slice_get, if◌then◌else◌}
+use Rattle.fed_dest.specs.ServerSet.{is_among}
 use Rattle.fed_journal.specs.declared.entry.Entry.{Entry}
 use Rattle.fed_journal.specs.declared.parcel.Parcel.{Parcel}
 use Rattle.fed_outbox.specs.Collecting.{Way}
@@ -13,6 +14,14 @@ use Rattle.fed_journal.specs.declared.offered.Offered.{Offered}
 -- on each way there is room for so many more parcels
 abbrev pub HasRoom : ℕ → List WayState → Type 0
 HasRoom more ways = (d : ℕ) (way : WayState) → slice_get ways d ≡ Some way → more ≤ way.free
+
+-- servers that are among so many
+abbrev pub AreAmong : ℕ → List ℕ → Type 0
+AreAmong count servers = (d : ℕ) → is_among servers d ≡ true → d < count
+
+-- parcels that are for servers among so many
+abbrev pub AreFor : ℕ → List Parcel → Type 0
+AreFor count parcels = (k : ℕ) (parcel : Parcel) → slice_get parcels k ≡ Some parcel → parcel.place.dest < count
 
 -- those that are for d
 abbrev pub parcels_for : ℕ → List Parcel → List Parcel

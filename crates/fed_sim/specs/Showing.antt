@@ -16,6 +16,5 @@ count_of texts = min (length texts) (2 ^ 64 - 1)
 pub data IsShown (server origin : ℕ) (w : WorldState) : Outcome → Type 0 where
   no_server : slice_get w.servers server ≡ None → IsShown server origin w NoSuchServer
   no_way : way_from w origin server ≡ None → IsShown server origin w NoSuchServer
-  no_name : slice_get w.names origin ≡ None → IsShown server origin w NoSuchServer
   shown : (s : ServerState) (way : Way) (name : List ℕ) → slice_get w.servers server ≡ Some s → way_from w origin server ≡ Some way → slice_get w.names origin ≡ Some name
       → IsShown server origin w (Shown (count_of (taken_of s.inbox name)) (count_of (taken_edus_of s.inbox name)) (length way.outbox.settled) (length way.outbox.settled_edus))

@@ -6,7 +6,7 @@ ghost use Rattle.fed_sim.specs.Way.{ways_of};
 ghost use Rattle.fed_journal.specs.Offered.{load_of};
 ghost use Rattle.fed_journal.specs.Offering.{open_among, has_place};
 ghost use Rattle.fed_journal.specs.Queues.{parcel_to};
-ghost use Rattle.fed_sim.specs.Sending.{HasRoom, pushed_from, entered_told, entries_after, ways_after};
+ghost use Rattle.fed_sim.specs.Sending.{HasRoom, AreAmong, AreFor, pushed_from, entered_told, entries_after, ways_after};
 
 use crate::way::Way;
 use fed_dest::ServerSet;
@@ -22,7 +22,7 @@ pub(crate) struct Entered {
 }
 
 /// Enters what is offered in the journal, with its destinations, and puts a parcel on the way to each of those whose outbox is open. `None`
-/// where the journal has no place for it; then, and where memory runs out, nothing has changed.
+/// where the journal has no place for it; then, and where memory runs out, nothing has changed. There is a way to each destination.
 pub(crate) fn enter(
     alloc: Global,
     journal: &mut Journal,
@@ -30,6 +30,7 @@ pub(crate) fn enter(
     offered: Offered,
     dests: ServerSet,
 ) -> Result<Option<Entered>, NoMemory>
+    requires { AreAmong (length ways.old) dests }
     ensures told { IfOk result (λ told. told ≡ entered_told offered dests journal.old.entries) }
     ensures rising { OnOk result (IsStrictlyIncreasing dests) }
     ensures entries { OnOk result (journal.new.entries ≡ entries_after offered dests journal.old.entries) }
@@ -113,17 +114,13 @@ fn make_room(ways: &mut [Way], more: usize) -> Result<(), NoMemory>
 
 // Each parcel waits on the way to its destination.
 fn push_all(ways: &mut [Way], parcels: Vec<Parcel>)
-    requires { HasRoom (length parcels.items) ways.old }
+    requires room { HasRoom (length parcels.items) ways.old }
+    requires dests { AreFor (length ways.old) parcels.items }
     ensures ways { ways_of ways.new ≡ pushed_from 0 parcels.items (ways_of ways.old) }
     ensures count { length ways.new ≡ length ways.old }
 {
     for parcel in parcels {
         let place = parcel.place.dest().place();
-        if place < ways.len() {
-            ways[place].push(parcel);
-        } else {
-            // It is for no one.
-            drop(parcel);
-        }
+        ways[place].push(parcel);
     }
 }

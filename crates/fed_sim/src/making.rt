@@ -59,13 +59,6 @@ impl World {
         }
     }
 
-    // Whether a server is listed.
-    fn has_server(&self, server: ServerIndex) -> bool
-        ensures { result ≡ nat_lt server (length self.entry.now.servers.items) }
-    {
-        server.place() < self.servers.len()
-    }
-
     // A user of a server sends an event, which is dated with the present moment.
     fn offer(
         &mut self,
@@ -76,11 +69,11 @@ impl World {
         ensures offered { let old = world_of self.old in IfOk result (λ told. AtServer server (IsOffered old.names old.known (dated draft.now old.now)) old told (world_of self.new)) }
         ensures err { OnErr result (world_of self.new ≡ world_of self.old) }
     {
-        if !self.has_server(server) {
+        let Some(sender) = self.servers.get_mut(server.place()) else {
             return Ok(Outcome::NoSuchServer);
-        }
+        };
         let draft = dated(alloc, draft, self.now)?;
-        self.servers[server.place()].offer(alloc, &self.list, &self.known, draft)
+        sender.offer(alloc, &self.list, &self.known, draft)
     }
 
     // A server sends an ephemeral data unit.
@@ -94,10 +87,10 @@ impl World {
         ensures offered { IfOk result (λ told. AtServer server (IsEduOffered edu.now dests.now) (world_of self.old) told (world_of self.new)) }
         ensures err { OnErr result (world_of self.new ≡ world_of self.old) }
     {
-        if !self.has_server(server) {
+        let Some(sender) = self.servers.get_mut(server.place()) else {
             return Ok(Outcome::NoSuchServer);
-        }
-        self.servers[server.place()].offer_edu(alloc, edu, dests)
+        };
+        sender.offer_edu(alloc, edu, dests)
     }
 
     // A server closes its outbox for a destination.
@@ -105,10 +98,10 @@ impl World {
         ensures closed { IfOk result (λ told. AtServer server (IsClosedFor dest) (world_of self.old) told (world_of self.new)) }
         ensures err { OnErr result (world_of self.new ≡ world_of self.old) }
     {
-        if !self.has_server(server) {
+        let Some(sender) = self.servers.get_mut(server.place()) else {
             return Ok(Outcome::NoSuchServer);
-        }
-        self.servers[server.place()].close(dest)
+        };
+        sender.close(dest)
     }
 
     /// The first parcel of a server for a destination goes into its outbox.
@@ -120,30 +113,30 @@ impl World {
         ensures collected { IfOk result (λ told. AtServer server (IsOnWay dest collecting) (world_of self.old) told (world_of self.new)) }
         ensures err { OnErr result (world_of self.new ≡ world_of self.old) }
     {
-        if !self.has_server(server) {
+        let Some(sender) = self.servers.get_mut(server.place()) else {
             return Ok(Outcome::NoSuchServer);
-        }
-        self.servers[server.place()].collect(dest)
+        };
+        sender.collect(dest)
     }
 
     /// A server makes the next transaction for a destination.
     pub(crate) fn cut(&mut self, server: ServerIndex, dest: ServerIndex) -> Outcome
         ensures { AtServer server (IsOnWay dest (cutting self.old.now)) (world_of self.old) result (world_of self.new) }
     {
-        if !self.has_server(server) {
+        let Some(sender) = self.servers.get_mut(server.place()) else {
             return Outcome::NoSuchServer;
-        }
-        self.servers[server.place()].cut(dest, self.now)
+        };
+        sender.cut(dest, self.now)
     }
 
     // The sending of the unanswered transaction has failed.
     fn failed(&mut self, server: ServerIndex, dest: ServerIndex) -> Outcome
         ensures { AtServer server (IsOnWay dest (failing self.old.now)) (world_of self.old) result (world_of self.new) }
     {
-        if !self.has_server(server) {
+        let Some(sender) = self.servers.get_mut(server.place()) else {
             return Outcome::NoSuchServer;
-        }
-        self.servers[server.place()].failed(dest, self.now)
+        };
+        sender.failed(dest, self.now)
     }
 
     /// The request of the unanswered transaction becomes a packet, where it is due.
@@ -156,23 +149,19 @@ impl World {
         ensures posted { IfOk result (λ told. IsPosted server dest (world_of self.old) told (world_of self.new)) }
         ensures err { OnErr result (world_of self.new ≡ world_of self.old) }
     {
-        if !self.has_server(server) {
+        let Some(sender) = self.server(server) else {
             return Ok(Outcome::NoSuchServer);
-        }
-        let sender = &self.servers[server.place()];
-        if !sender.has_way(dest) {
+        };
+        let Some(way) = sender.way(dest) else {
             return Ok(Outcome::NoSuchServer);
-        }
-        let outbox = sender.ways[dest.place()].outbox();
+        };
+        let outbox = way.outbox();
         let Some(transaction) = outbox.unanswered() else {
             return Ok(Outcome::NothingToPost);
         };
         if !outbox.due(self.now) {
             let at_ms = outbox.due_at();
             return Ok(Outcome::NotDue { at_ms });
-        }
-        if self.list.len() <= dest.place() {
-            return Ok(Outcome::NoSuchServer);
         }
         let name = self.list.name(dest);
         let number = transaction.number;
@@ -202,7 +191,6 @@ impl World {
         if !self.has_packet(packet) {
             return Ok(Outcome::NoSuchRequest);
         }
-        self.packets.reserve(1)?;
         let Packet::Request {
             server,
             dest,
@@ -216,10 +204,11 @@ impl World {
         let Some(request) = read_request(alloc, bytes)? else {
             return Ok(Outcome::NoSuchRequest);
         };
-        if !self.has_server(dest) {
+        self.packets.reserve(1)?;
+        let Some(receiver) = self.servers.get_mut(dest.place()) else {
             return Ok(Outcome::NoSuchRequest);
-        }
-        let reply = self.servers[dest.place()].receive(alloc, &self.known, &request)?;
+        };
+        let reply = receiver.receive(alloc, &self.known, &request)?;
         let status = reply.status();
         // There is room for it.
         self.packets
@@ -253,10 +242,10 @@ impl World {
         };
         let (server, dest, number) = (*server, *dest, *number);
         let status = read_status(alloc, reply)?;
-        if !self.has_server(server) {
+        let Some(sender) = self.servers.get_mut(server.place()) else {
             return Ok(Outcome::NoSuchServer);
-        }
-        Ok(self.servers[server.place()].settle(dest, number, status, self.now))
+        };
+        Ok(sender.settle(dest, number, status, self.now))
     }
 
     // The first event in front of a room is given to it.
@@ -264,10 +253,10 @@ impl World {
         ensures applied { let old = world_of self.old in IfOk result (λ told. AtServer server (IsGivenTo old.known room.now) old told (world_of self.new)) }
         ensures err { let old = world_of self.old in OnErr result (AtServerInPart server (IsGivenInPart old.known room.now) old (world_of self.new)) }
     {
-        if !self.has_server(server) {
+        let Some(receiver) = self.servers.get_mut(server.place()) else {
             return Ok(Outcome::NoSuchServer);
-        }
-        self.servers[server.place()].apply(alloc, &self.known, room)
+        };
+        receiver.apply(alloc, &self.known, room)
     }
 
     /// The first event in front of the room at this place is given to it.
@@ -280,10 +269,10 @@ impl World {
         ensures applied { IfOk result (λ told. AtServer server (IsArrived place) (world_of self.old) told (world_of self.new)) }
         ensures err { OnErr result (AtServerInPart server (IsArrivedInPart place) (world_of self.old) (world_of self.new)) }
     {
-        if !self.has_server(server) {
+        let Some(receiver) = self.servers.get_mut(server.place()) else {
             return Ok(Outcome::NoSuchServer);
-        }
-        self.servers[server.place()].apply_at(alloc, place)
+        };
+        receiver.apply_at(alloc, place)
     }
 
     // The moment rises.
@@ -320,9 +309,6 @@ impl World {
         let Some(outbox) = self.outbox(origin, server) else {
             return Outcome::NoSuchServer;
         };
-        if self.list.len() <= origin.place() {
-            return Outcome::NoSuchServer;
-        }
         let name = self.list.name(origin);
         Outcome::Shown {
             taken: count_of(inbox.taken(name)),

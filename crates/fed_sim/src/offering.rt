@@ -33,14 +33,15 @@ impl Server {
         known: &[String],
         draft: Draft,
     ) -> Result<Outcome, NoMemory>
+        requires ways { length self.old.ways.items ≡ length list.now }
+        requires rooms { length self.old.rooms.items ≡ length known.now }
         ensures offered { IfOk result (λ outcome. IsOffered list.now (map string_bytes known.now) draft (server_of self.old) outcome (server_of self.new)) }
         ensures err { OnErr result (server_of self.new ≡ server_of self.old) }
     {
-        let place = place_of(known, &draft.room).unwrap_or(self.rooms.len());
-        if self.rooms.len() <= place {
-            return Ok(Outcome::NotSent(SendRefusal::UnknownRoom));
+        match place_of(known, &draft.room) {
+            Some(place) => self.offer_at(alloc, list, place, draft),
+            None => Ok(Outcome::NotSent(SendRefusal::UnknownRoom)),
         }
-        self.offer_at(alloc, list, place, draft)
     }
 
     // The same, in the room at this place.
@@ -51,7 +52,8 @@ impl Server {
         place: usize,
         draft: Draft,
     ) -> Result<Outcome, NoMemory>
-        requires { place < length self.old.rooms.items }
+        requires room { place < length self.old.rooms.items }
+        requires ways { length self.old.ways.items ≡ length list.now }
         ensures offered { IfOk result (λ outcome. IsOfferedAt list.now place draft (server_of self.old) outcome (server_of self.new)) }
         ensures err { OnErr result (server_of self.new ≡ server_of self.old) }
     {

@@ -1,5 +1,5 @@
 // What a server takes.
-ghost use Rattle.std.specs.Prelude.{◌≡◌, OnOk, OnErr, IfOk, length, map, position, bytes_eq, string_bytes};
+ghost use Rattle.std.specs.Prelude.{◌≡◌, ◌<◌, OnOk, OnErr, IfOk, IfSome, length, map, position, bytes_eq, string_bytes};
 ghost use Rattle.fed_sim.specs.Hosted.{rooms_of, arrivals_of};
 ghost use Rattle.fed_inbox.specs.Queues.{queues_after};
 ghost use Rattle.fed_sim.specs.Taking.{HasRoom, IsReceived};
@@ -24,6 +24,7 @@ impl Server {
         known: &[String],
         request: &Request,
     ) -> Result<Reply, NoMemory>
+        requires { length self.old.rooms.items ≡ length known.now }
         ensures received { IfOk result (λ reply. IsReceived (map string_bytes known.now) request.now (server_of self.old) reply (server_of self.new)) }
         ensures err { OnErr result (server_of self.new ≡ server_of self.old) }
     {
@@ -38,7 +39,8 @@ impl Server {
 
 /// The place of a room among these.
 pub(crate) fn place_of(known: &[String], room: &str) -> Option<usize>
-    ensures { result ≡ position (λ id. bytes_eq (string_bytes id) room.now) known.now }
+    ensures place { result ≡ position (λ id. bytes_eq (string_bytes id) room.now) known.now }
+    ensures within { IfSome result (λ place. place < length known.now) }
 {
     known.iter().position(|id| id.as_str() == room)
 }
@@ -58,18 +60,17 @@ fn make_room(rooms: &mut [Hosted]) -> Result<(), NoMemory>
 
 // Each event waits in front of its room.
 fn push_all(rooms: &mut [Hosted], known: &[String], events: Vec<Checked>)
-    requires { HasRoom (length events.items) rooms.old }
+    requires room { HasRoom (length events.items) rooms.old }
+    requires known { length rooms.old ≡ length known.now }
     ensures rooms { rooms_of rooms.new ≡ rooms_of rooms.old }
     ensures arrivals { arrivals_of rooms.new ≡ queues_after (map string_bytes known.now) events.items (arrivals_of rooms.old) }
     ensures count { length rooms.new ≡ length rooms.old }
 {
     for event in events {
-        let place = place_of(known, event.event().room_id()).unwrap_or(rooms.len());
-        if place < rooms.len() {
-            rooms[place].push(event);
-        } else {
+        match place_of(known, event.event().room_id()) {
+            Some(place) => rooms[place].push(event),
             // It is of no room here.
-            drop(event);
+            None => drop(event),
         }
     }
 }

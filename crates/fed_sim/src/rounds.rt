@@ -5,7 +5,7 @@ ghost use Rattle.fed_sim.specs.WorldParts.{world_of};
 
 use crate::outcome::Outcome;
 use crate::world::World;
-use fed_dest::{MAX_SERVERS, ServerIndex};
+use fed_dest::ServerIndex;
 use fed_json::NoMemory;
 use std::alloc::Global;
 
@@ -35,11 +35,11 @@ fn calm_round(world: &mut World, alloc: Global) -> Result<bool, NoMemory>
     ensures ok { OnOk result (Reached (world_of world.old) (world_of world.new)) }
     ensures err { OnErr result (ReachedInPart (world_of world.old) (world_of world.new)) }
 {
-    let count = world.names().len().min(MAX_SERVERS);
+    let count = world.list.len();
     let mut is_busy = false;
     for place in 0..count {
         let server = ServerIndex::new(place);
-        is_busy |= calm_server(world, alloc, server, count)?;
+        is_busy |= calm_server(world, alloc, server)?;
     }
     for place in 0..count {
         let server = ServerIndex::new(place);
@@ -49,17 +49,12 @@ fn calm_round(world: &mut World, alloc: Global) -> Result<bool, NoMemory>
 }
 
 // The pairs of a server with each of the others; whether anything was done.
-fn calm_server(
-    world: &mut World,
-    alloc: Global,
-    server: ServerIndex,
-    count: usize,
-) -> Result<bool, NoMemory>
+fn calm_server(world: &mut World, alloc: Global, server: ServerIndex) -> Result<bool, NoMemory>
     ensures ok { OnOk result (Reached (world_of world.old) (world_of world.new)) }
     ensures err { OnErr result (ReachedInPart (world_of world.old) (world_of world.new)) }
 {
     let mut is_busy = false;
-    for place in 0..count.min(MAX_SERVERS) {
+    for place in 0..world.list.len() {
         let dest = ServerIndex::new(place);
         if dest != server {
             is_busy |= collect_all(world, server, dest)?;

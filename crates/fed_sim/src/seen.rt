@@ -2,11 +2,13 @@
 ghost use Rattle.std.specs.Prelude.{◌≡◌, map, option_map, slice_get};
 ghost use Rattle.fed_sim.specs.Hosted.{rooms_of};
 ghost use Rattle.fed_sim.specs.Packets.{way_from};
+ghost use Rattle.fed_sim.specs.ServerParts.{server_of};
 ghost use Rattle.fed_sim.specs.WorldParts.{packet_of, world_of};
 
 use crate::hosted::Hosted;
 use crate::outcome::Outcome;
 use crate::packet::Packet;
+use crate::server::Server;
 use crate::way::Way;
 use crate::world::World;
 use fed_dest::{ServerIndex, ServerName};
@@ -95,8 +97,15 @@ impl World {
         Some(outbox.due_at())
     }
 
+    /// A listed server.
+    pub(crate) fn server(&self, server: ServerIndex) -> Option<&Server>
+        ensures { option_map (λ s. server_of s.now) result ≡ slice_get (world_of self.entry.now).servers server }
+    {
+        self.servers.get(server.place())
+    }
+
     // The way from a server to a destination.
     fn way(&self, server: ServerIndex, dest: ServerIndex) -> Option<&Way> {
-        self.servers.get(server.place())?.way(dest)
+        self.server(server)?.way(dest)
     }
 }

@@ -1,4 +1,4 @@
-use Rattle.std.proofs.Common.{arith, ◌≡◌, ℕ, Bool, true, false, List, [], ◌∷◌, ◌++◌, length, Option, None, Some, if◌then◌else◌, sym, ap, ◌∙◌}
+use Rattle.std.proofs.Common.{arith, ◌≡◌, ℕ, Bool, true, false, List, [], ◌∷◌, ◌++◌, length, Option, None, Some, if◌then◌else◌, sym, ap, ◌∙◌, subst}
 use Rattle.std.specs.List.{filter_map}
 use Rattle.fed_journal.specs.declared.entry.Entry.{Entry}
 use Rattle.fed_journal.specs.declared.parcel.Parcel.{Parcel}
@@ -10,9 +10,9 @@ use Rattle.fed_journal.specs.Offered.{entry_of, load_of, number_of}
 use Rattle.fed_journal.specs.Offering.{has_place, open_among}
 use Rattle.fed_journal.specs.Queues.{parcel_to}
 use Rattle.fed_sim.specs.Ways.{ways_beyond}
-use Rattle.fed_sim.specs.Sending.{fits, pushed_from}
+use Rattle.fed_sim.specs.Sending.{AreFor, fits, pushed_from}
 use Rattle.fed_sim.proofs.Offers.{ways_one}
-use Rattle.fed_sim.proofs.Lanes.{all_sent, count_sent}
+use Rattle.fed_sim.proofs.WayQueues.{all_sent, are_for, count_sent}
 use Rattle.fed_sim.proofs.entering.enter.Goals as goal
 
 -- whether it fits, as it was told
@@ -20,6 +20,11 @@ fits_told : (offered : Offered) (dests : List ℕ) (entries : List Entry) (parce
     → told ≡ has_place entries n → told ≡ answer → fits offered dests entries ≡ answer
 fits_told offered dests entries parcels n told answer count are reserved is =
     ap (has_place entries) (sym (count ∙ ap length are ∙ count_sent (load_of offered) dests entries)) ∙ sym reserved ∙ is
+
+pub push_all-requires-clause-dests : goal.push_all-requires-clause-dests
+push_all-requires-clause-dests c =
+    subst (λ n. AreFor n c.in_ok-parcels.parcels.items) (sym c.in_ok-reserve.ensures.count)
+    (subst (AreFor (length c.args.ways.now)) (sym c.in_ok-parcels.ensures.parcels) (are_for c.args.journal.now.entries (load_of c.args.offered) (length c.args.ways.now) c.args.dests c.requires))
 
 pub returns-then-not-branch-clause-told : goal.returns-then-not-branch-clause-told
 returns-then-not-branch-clause-told c =
@@ -37,9 +42,9 @@ returns-then-not-branch-clause-entries c =
 pub returns-then-not-branch-clause-ways : goal.returns-then-not-branch-clause-ways
 returns-then-not-branch-clause-ways c =
     let entries = c.args.journal.now.entries in
-    let lanes = ways_of c.args.ways.now in
+    let states = ways_of c.args.ways.now in
     c.in_ok-reserve.ensures.ways
-    ∙ ap (λ (b : Bool). if b then ways_beyond 0 entries (entries ++ entry_of c.args.offered c.args.dests ∷ []) lanes else lanes)
+    ∙ ap (λ (b : Bool). if b then ways_beyond 0 entries (entries ++ entry_of c.args.offered c.args.dests ∷ []) states else states)
     (sym (fits_told c.args.offered c.args.dests entries _ _ _ false (omega (arith, c.len.ensures, c.in_ok-parcels.parcels.ok.0)) c.in_ok-parcels.ensures.parcels c.in_ok-reserve.ensures.told c.if-not-branch.true))
 
 pub returns-clause-told : goal.returns-clause-told
@@ -63,9 +68,9 @@ returns-clause-entries c =
 pub returns-clause-ways : goal.returns-clause-ways
 returns-clause-ways c =
     let entries = c.args.journal.now.entries in
-    let lanes = ways_of c.args.ways.now in
+    let states = ways_of c.args.ways.now in
     c.push_all.ensures.ways
     ∙ (λ i. pushed_from 0 (c.in_ok-parcels.ensures.parcels i) (c.in_ok-reserve.ensures.ways i))
-    ∙ all_sent c.args.offered c.args.dests entries c.in_ok-parcels.ensures.rising 0 lanes ∙ sym (ways_one 0 entries (entry_of c.args.offered c.args.dests) lanes)
-    ∙ ap (λ (b : Bool). if b then ways_beyond 0 entries (entries ++ entry_of c.args.offered c.args.dests ∷ []) lanes else lanes)
+    ∙ all_sent c.args.offered c.args.dests entries c.in_ok-parcels.ensures.rising 0 states ∙ sym (ways_one 0 entries (entry_of c.args.offered c.args.dests) states)
+    ∙ ap (λ (b : Bool). if b then ways_beyond 0 entries (entries ++ entry_of c.args.offered c.args.dests ∷ []) states else states)
     (sym (fits_told c.args.offered c.args.dests entries _ _ _ true (omega (arith, c.len.ensures, c.in_ok-parcels.parcels.ok.0)) c.in_ok-parcels.ensures.parcels c.in_ok-reserve.ensures.told c.if-not-branch.false))

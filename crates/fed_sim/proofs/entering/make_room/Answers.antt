@@ -1,7 +1,7 @@
 use Rattle.std.proofs.Common.{arith, ◌≤◌, ◌<◌, ◌+◌, ◌∙◌}
 use Rattle.std.proofs.lemmas.Option.{slice_get_within}
 use Rattle.fed_sim.specs.Way.{WayState}
-use Rattle.fed_sim.proofs.Lanes.{same_seen, set_all}
+use Rattle.fed_sim.proofs.WayQueues.{same_seen, set_all}
 use Rattle.fed_sim.proofs.entering.make_room.Goals as goal
 
 pub returns-in_err-make_room-clause-ways : goal.returns-in_err-make_room-clause-ways

@@ -6,7 +6,7 @@ use Rattle.fed_journal.specs.declared.parcel.Load.{Load}
 use Rattle.fed_journal.specs.declared.parcel.Parcel.{Parcel}
 use Rattle.fed_journal.specs.Offered.{load_of}
 use Rattle.fed_journal.specs.Queues.{parcel_to}
-use Rattle.fed_sim.proofs.Lanes.{picked_more}
+use Rattle.fed_sim.proofs.WayQueues.{picked_more}
 use Rattle.fed_sim.proofs.entering.parcels_to.Goals.{in-Some+in_ok-load+in_ok-push, in_default}
 use Rattle.fed_sim.proofs.entering.parcels_to.Goals as goal
 

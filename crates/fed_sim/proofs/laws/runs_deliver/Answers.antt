@@ -1,6 +1,6 @@
 use Rattle.fed_sim.proofs.Beginning.{begins_sound}
 use Rattle.fed_sim.proofs.Delivered.{all_delivered}
-use Rattle.fed_sim.proofs.LaneMoves.{Laws}
+use Rattle.fed_sim.proofs.WayMoves.{Laws}
 use Rattle.fed_sim.proofs.Runs.{run_sound, reached_sound}
 use Rattle.fed_sim.proofs.Taken.{taken_once}
 use Rattle.fed_sim.proofs.Journals.{as_many, all_kept}

@@ -2,7 +2,7 @@ use Rattle.std.proofs.Common.{arith, ◌≤◌, ◌<◌, ◌+◌, ap, ◌∙◌}
 use Rattle.std.proofs.lemmas.Option.{slice_get_within}
 use Rattle.fed_room.specs.Room.{RoomValue, room_of}
 use Rattle.fed_sim.specs.Hosted.{HostedState}
-use Rattle.fed_sim.proofs.Lanes.{same_seen, set_all}
+use Rattle.fed_sim.proofs.WayQueues.{same_seen, set_all}
 use Rattle.fed_sim.proofs.receiving.make_room.Goals as goal
 
 pub returns-in_err-make_room-clause-rooms : goal.returns-in_err-make_room-clause-rooms

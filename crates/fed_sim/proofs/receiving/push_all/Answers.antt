@@ -1,31 +1,31 @@
-use Rattle.std.proofs.Common.{arith, ◌≡◌, ◌≤◌, ◌∷◌, [], length, length-set, map, string_bytes, String, Global, bytes_eq, position, Some, sym, ap, ◌∙◌}
-use Rattle.std.specs.Option.{unwrap_or}
-use Rattle.std.proofs.lemmas.List.{length-map}
+use Rattle.std.proofs.Common.{arith, ◌≡◌, ◌≤◌, ◌<◌, ◌∷◌, [], length, length-set, map, string_bytes, String, Global, bytes_eq, position, Some, None, IfSome, sym, ap, subst, ◌∙◌}
 use Rattle.std.proofs.lemmas.Option.{slice_get-get_or}
 use Rattle.fed_event.specs.Fields.{room_id_of}
 use Rattle.fed_dest.specs.List.{place_of}
 use Rattle.fed_room.specs.Room.{RoomValue, room_of}
 use Rattle.fed_sim.specs.Hosted.{HostedState, arrivals_of}
 use Rattle.fed_inbox.specs.Queues.{queues_from}
-use Rattle.fed_sim.proofs.Lanes.{same_seen, none_left, set_all}
+use Rattle.fed_sim.proofs.WayQueues.{same_seen, none_left, set_all}
 use Rattle.fed_sim.proofs.Servers.{place_named}
-use Rattle.fed_sim.proofs.Arrivals.{nothing_arrives, arrives_here, arrives_nowhere, found_within}
+use Rattle.fed_sim.proofs.Arrivals.{nothing_arrives, arrives_here, arrives_nowhere}
 use Rattle.fed_sim.proofs.receiving.push_all.Goals as goal
 
-pub loop-event-preserved-then-place-rooms : goal.loop-event-preserved-then-place-rooms
-loop-event-preserved-then-place-rooms c =
+pub loop-event-preserved-in-Some-place_of : goal.loop-event-preserved-in-Some-place_of
+loop-event-preserved-in-Some-place_of c =
+    let place = c.in-Some-place_of.place in
     let event = c.in-Some.event in
     let later = c.next.new.self.rest.items in
     let rooms = c.loop-event.rooms in
-    let place = c.unwrap_or-place.result in
     let known = map string_bytes c.args.known.now in
     let taken : c.loop-event.event-iterator.rest.items ≡ event ∷ later = c.in-Some.ensures.steps.0 in
     let fewer = ap length taken in
-    let here = slice_get-get_or rooms place c.index-rooms-place.result c.if-place-rooms.true in
     let room : c.room_id.result.now ≡ room_id_of event.event = c.room_id.ensures ∙ ap room_id_of c.event.ensures.event in
     let is : place_of known (room_id_of event.event) ≡ Some place =
     sym (place_named c.args.known.now (room_id_of event.event)) ∙ ap (λ r. position (λ (id : String Global). bytes_eq (string_bytes id) r) c.args.known.now) (sym room)
-    ∙ sym c.place_of.ensures ∙ found_within c.place_of.result (length rooms) place c.unwrap_or-place.ensures c.if-place-rooms.true in (
+    ∙ sym c.place_of.ensures.place ∙ c.in-Some-place_of.is in
+    let listed : place < length c.args.known.now = subst (λ o. IfSome o (λ p. p < length c.args.known.now)) c.in-Some-place_of.is c.place_of.ensures.within in
+    let within : place < length rooms = omega (arith, listed, c.requires.known, c.loop-event.invariant.1) in
+    let here = slice_get-get_or rooms place c.index-rooms-place.result within in (
       set_all (λ _ (h : HostedState). length later ≤ h.free) rooms place c.push.new.self
           (let before = c.loop-event.invariant.0 place _ here in let used = c.push.ensures.free in omega arith)
           (λ d h _ there. let before = c.loop-event.invariant.0 d h there in omega arith),
@@ -44,14 +44,13 @@ loop-event-preserved c =
     let taken : c.loop-event.event-iterator.rest.items ≡ event ∷ later = c.in-Some.ensures.steps.0 in
     let fewer = ap length taken in
     let room : c.room_id.result.now ≡ room_id_of event.event = c.room_id.ensures ∙ ap room_id_of c.event.ensures.event in
-    let is : place_of known (room_id_of event.event) ≡ c.place_of.result =
-    sym (place_named c.args.known.now (room_id_of event.event)) ∙ ap (λ r. position (λ (id : String Global). bytes_eq (string_bytes id) r) c.args.known.now) (sym room) ∙ sym c.place_of.ensures in
-    let all = length-map rooms (λ (h : HostedState). h.queue) in
-    let place : c.unwrap_or-place.result ≡ unwrap_or (place_of known (room_id_of event.event)) (length rooms) = c.unwrap_or-place.ensures ∙ ap (λ o. unwrap_or o (length rooms)) (sym is) in (
+    let is : place_of known (room_id_of event.event) ≡ None =
+    sym (place_named c.args.known.now (room_id_of event.event)) ∙ ap (λ r. position (λ (id : String Global). bytes_eq (string_bytes id) r) c.args.known.now) (sym room)
+    ∙ sym c.place_of.ensures.place ∙ c.in-None-place_of.is in (
       λ d h there. let before = c.loop-event.invariant.0 d h there in omega arith,
       c.loop-event.invariant.1,
       c.loop-event.invariant.2,
-      arrives_nowhere known event later (arrivals_of rooms) (length rooms) c.unwrap_or-place.result place (sym all) c.if-place-rooms.false ∙ ap (λ es. queues_from 0 known es (arrivals_of rooms)) (sym taken) ∙ c.loop-event.invariant.3,
+      arrives_nowhere known event later (arrivals_of rooms) is ∙ ap (λ es. queues_from 0 known es (arrivals_of rooms)) (sym taken) ∙ c.loop-event.invariant.3,
     )
 
 pub returns-clause-arrivals : goal.returns-clause-arrivals

@@ -17,7 +17,7 @@ use Rattle.fed_sim.specs.Sending.{pushed_from}
 use Rattle.fed_sim.specs.Offering.{IsClosedFor}
 use Rattle.fed_sim.proofs.Offers.{ways_one, own_server, not_listed, closed_before, close_limit, closing_enters}
 use Rattle.fed_sim.specs.ServerParts.{server_of}
-use Rattle.fed_sim.proofs.Lanes.{same_seen, pushed_here, pushed_nothing, end_sent}
+use Rattle.fed_sim.proofs.WayQueues.{same_seen, pushed_here, pushed_nothing, end_sent}
 use Rattle.fed_sim.proofs.Servers.{same_at, listed, closed_where, open_where, has_none, has_one, on_error}
 use Rattle.fed_sim.proofs.server.Server.close.Goals as goal
 
@@ -65,8 +65,8 @@ returns-clause-closed c =
     let size = c.args.self.now.ways.ok.0 in
     let at : c.place-3.result ≡ d = c.place-3.ensures.place in
     let within : c.place-3.result < length ways = omega (arith, size, c.len.ensures, c.place.ensures.place, c.if-len-place.false, at) in
-    let way = listed ways d (omega (arith, within, at)) in
-    let here = slice_get-map (λ (l : WayState). l.way) ways d ∙ ap (option_map (λ (l : WayState). l.way)) way.1 in
+    let old = listed ways d (omega (arith, within, at)) in
+    let here = slice_get-map (λ (l : WayState). l.way) ways d ∙ ap (option_map (λ (l : WayState). l.way)) old.1 in
     let is_open = open_where entries d c.in-Some.place (sym c.place-2.ensures ∙ c.in-Some.is) in
     let parcel : Parcel = record { place = c.in-Some.place; load = End } in
     let as_before : c.reserve.new.self.entries ≡ entries = ap (λ (j : JournalState). j.entries) c.in-Ok.ensures.ok in
@@ -74,13 +74,13 @@ returns-clause-closed c =
     let journal : c.close.new.self.entries ≡ entries ++ entry.Close d Asked ∷ [] =
     ap (λ (j : JournalState). j.entries) (c.close.ensures.entry ∙ ap (λ (b : Bool). if b then c.reserve.new.self else with_entry c.reserve.new.self (entry.Close d Asked)) was_open)
     ∙ ap (λ es. es ++ entry.Close d Asked ∷ []) as_before in
-    let lane : c.push.new.self.way ≡ with_parcel c.index_mut-way.result.now.way parcel = c.push.ensures.way ∙ ap (λ (l : Way). with_parcel l parcel) c.in_ok-make_room.ensures.way in
-    let lanes : ways_of (set ways c.place-3.result c.push.new.self) ≡ ways_beyond 0 entries (entries ++ entry.Close d Asked ∷ []) (ways_of ways) =
+    let way : c.push.new.self.way ≡ with_parcel c.index_mut-way.result.now.way parcel = c.push.ensures.way ∙ ap (λ (l : Way). with_parcel l parcel) c.in_ok-make_room.ensures.way in
+    let states : ways_of (set ways c.place-3.result c.push.new.self) ≡ ways_beyond 0 entries (entries ++ entry.Close d Asked ∷ []) (ways_of ways) =
     sym (pushed_nothing 0 (ways_of (set ways c.place-3.result c.push.new.self)))
     ∙ pushed_here parcel [] ways c.place-3.result c.index_mut-way.result.now c.push.new.self (ap (λ (p : PlaceValue). p.dest) is_open.1 ∙ sym at)
-    (slice_get-get_or ways c.place-3.result c.index_mut-way.result.now within ∙ ap Some (sym c.index_mut-way.ensures.value)) lane
+    (slice_get-get_or ways c.place-3.result c.index_mut-way.result.now within ∙ ap Some (sym c.index_mut-way.ensures.value)) way
     ∙ ap (λ (p : PlaceValue). pushed_from 0 (record { place = p; load = End } ∷ []) (ways_of ways)) is_open.1
     ∙ end_sent d entries is_open.0 0 (ways_of ways) ∙ sym (ways_one 0 entries (entry.Close d Asked) (ways_of ways)) in
     subst (IsClosedFor d (server_of c.args.self.now) Closed)
-    (same_at (server_of c.args.self.now) _ _ _ _ (sym journal) (sym lanes))
-    (closing_enters d (server_of c.args.self.now) way.0.way (eqb-false _ _ (sym c.if-eq.ensures)) here is_open.0 (has_one entries 0 c.in-Ok.field-0 _ c.in-Ok.ensures.limit))
+    (same_at (server_of c.args.self.now) _ _ _ _ (sym journal) (sym states))
+    (closing_enters d (server_of c.args.self.now) old.0.way (eqb-false _ _ (sym c.if-eq.ensures)) here is_open.0 (has_one entries 0 c.in-Ok.field-0 _ c.in-Ok.ensures.limit))

@@ -11,8 +11,8 @@ use Rattle.fed_sim.specs.ServerParts.{server_of}
 use Rattle.fed_sim.proofs.Fresh.{few_fresh}
 use Rattle.fed_sim.proofs.server.Server.receive.Goals as goal
 
-pub push_all-requires : goal.push_all-requires
-push_all-requires c = λ k room here.
+pub push_all-requires-clause-room : goal.push_all-requires-clause-room
+push_all-requires-clause-room c = λ k room here.
     let held = ap length c.deref_mut.ensures.value in
     let size = c.args.self.now.rooms.ok.0 in
     let kept = c.make_room.ensures.count in
@@ -21,6 +21,14 @@ push_all-requires c = λ k room here.
     let few = few_fresh c.what_the_queues_get.ensures.few _ _ _ _ _ _ c.answer-reply.ensures.answered in
     let handed = ap length c.fresh-events.ensures.handed in
     omega arith
+
+pub push_all-requires-clause-known : goal.push_all-requires-clause-known
+push_all-requires-clause-known c =
+    let held = ap length c.deref_mut.ensures.value in
+    let size = c.args.self.now.rooms.ok.0 in
+    let kept = c.make_room.ensures.count in
+    let rooms : c.deref_mut-2.result.now ≡ c.make_room.new.rooms = c.deref_mut-2.ensures.value ∙ with_items_is c.args.self.now.rooms c.make_room.new.rooms (omega arith) in
+    ap length rooms ∙ kept ∙ held ∙ c.requires
 
 pub returns-clause-received : goal.returns-clause-received
 returns-clause-received c =

@@ -1,23 +1,24 @@
 use Rattle.std.proofs.Common.{arith, ◌≡◌, ◌∙◌, ap, sym, subst, length}
 use Rattle.std.specs.List.{slice_get}
 use Rattle.std.specs.Option.{option_map}
-use Rattle.std.proofs.lemmas.Option.{slice_get_past}
 use Rattle.fed_outbox.specs.Collecting.{Way}
 use Rattle.fed_outbox.specs.Outbox.{OutboxState}
 use Rattle.fed_inbox.specs.Inbox.{InboxState, taken_of, taken_edus_of}
 use Rattle.fed_sim.specs.declared.outcome.Outcome.TheVariants.{Shown}
 use Rattle.fed_sim.specs.Packets.{way_from}
 use Rattle.fed_sim.specs.Server.{ServerState}
-use Rattle.fed_sim.specs.Showing.{IsShown, no_server, no_way, no_name, shown, count_of}
+use Rattle.fed_sim.specs.Showing.{IsShown, no_server, no_way, shown, count_of}
 use Rattle.fed_sim.specs.WorldParts.{world_of}
 use Rattle.fed_sim.proofs.Options.{mapped_none, mapped_some}
+use Rattle.fed_sim.proofs.Packets.{sender_listed}
+use Rattle.fed_sim.proofs.Shapes.{servers_count}
 use Rattle.fed_sim.proofs.world.World.shown.Goals as goal
 
 abbrev inbox_of : ServerState → InboxState
 inbox_of s = s.inbox
 
 abbrev outbox_of : Way → OutboxState
-outbox_of lane = lane.outbox
+outbox_of way = way.outbox
 
 pub returns-in_default : goal.returns-in_default
 returns-in_default c = no_server (mapped_none inbox_of _ (ap (option_map (λ inbox. inbox.now.state)) (sym c.in_default.is) ∙ c.inbox.ensures))
@@ -25,8 +26,13 @@ returns-in_default c = no_server (mapped_none inbox_of _ (ap (option_map (λ inb
 pub returns-in_default-outbox : goal.returns-in_default-outbox
 returns-in_default-outbox c = no_way (mapped_none outbox_of _ (ap (option_map (λ outbox. outbox.now)) (sym c.in_default-outbox.is) ∙ c.outbox.ensures))
 
-pub returns-then-len-place : goal.returns-then-len-place
-returns-then-len-place c = no_name (slice_get_past c.args.self.now.list c.args.origin (omega (arith, c.len.ensures.len, c.place.ensures.place, c.if-len-place.true)))
+pub name-name-requires : goal.name-name-requires
+name-name-requires c =
+    let w = world_of c.args.self.now in
+    let way = mapped_some outbox_of (way_from w c.args.origin c.args.server) c.in-Some-outbox.outbox.now (ap (option_map (λ outbox. outbox.now)) (sym c.in-Some-outbox.is) ∙ c.outbox.ensures) in
+    let listed = sender_listed w c.args.origin c.args.server way.0 way.1 in
+    let count = servers_count w c.args.self.now.comes in
+    omega (arith, listed, count)
 
 pub returns : goal.returns
 returns c =

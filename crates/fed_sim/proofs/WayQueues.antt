@@ -24,7 +24,7 @@ use Rattle.fed_journal.specs.declared.offered.Offered.TheVariants as offered
 use Rattle.fed_journal.specs.Offered.{entry_of, load_of}
 use Rattle.fed_journal.specs.Offering.{open_among}
 use Rattle.fed_sim.specs.Way.{WayState, with_parcel, ways_of}
-use Rattle.fed_sim.specs.Sending.{parcels_for, pushed_from}
+use Rattle.fed_sim.specs.Sending.{AreAmong, AreFor, parcels_for, pushed_from}
 use Rattle.fed_sim.proofs.Offers.{ways_from}
 
 -- one of them changes, and not in what is seen of it
@@ -64,34 +64,34 @@ none_left (x ∷ xs) none = absurd (omega (arith, none))
 
 -- ---- parcels that are pushed
 
-pub pushed_nothing : (n : ℕ) (lanes : List Way) → pushed_from n [] lanes ≡ lanes
+pub pushed_nothing : (n : ℕ) (ways : List Way) → pushed_from n [] ways ≡ ways
 pushed_nothing n [] = refl
-pushed_nothing n (lane ∷ lanes) = λ i. record { queue = append-nil lane.queue i; outbox = lane.outbox } ∷ pushed_nothing (n + 1) lanes i
+pushed_nothing n (way ∷ ways) = λ i. record { queue = append-nil way.queue i; outbox = way.outbox } ∷ pushed_nothing (n + 1) ways i
 
-not_reached : (n : ℕ) (parcel : Parcel) (later : List Parcel) (lanes : List Way) → ((k : ℕ) → k < length lanes → parcel.place.dest ≢ n + k)
-    → pushed_from n (parcel ∷ later) lanes ≡ pushed_from n later lanes
+not_reached : (n : ℕ) (parcel : Parcel) (later : List Parcel) (ways : List Way) → ((k : ℕ) → k < length ways → parcel.place.dest ≢ n + k)
+    → pushed_from n (parcel ∷ later) ways ≡ pushed_from n later ways
 not_reached n parcel later [] apart = refl
-not_reached n parcel later (lane ∷ lanes) apart =
+not_reached n parcel later (way ∷ ways) apart =
     let other : (parcel.place.dest == n) ≡ false = ne_eqb _ _ (λ same. apart 0 (omega arith) (omega (arith, same))) in
-    λ i. record { queue = lane.queue ++ (if other i then parcel ∷ parcels_for n later else parcels_for n later); outbox = lane.outbox }
-    ∷ not_reached (n + 1) parcel later lanes (λ k below same. apart (k + 1) (omega (arith, below)) (omega (arith, same))) i
+    λ i. record { queue = way.queue ++ (if other i then parcel ∷ parcels_for n later else parcels_for n later); outbox = way.outbox }
+    ∷ not_reached (n + 1) parcel later ways (λ k below same. apart (k + 1) (omega (arith, below)) (omega (arith, same))) i
 
-one_pushed : (n : ℕ) (parcel : Parcel) (later : List Parcel) (lanes : List Way) (k : ℕ) (lane : Way) → parcel.place.dest ≡ n + k → slice_get lanes k ≡ Some lane
-    → pushed_from n later (set lanes k (with_parcel lane parcel)) ≡ pushed_from n (parcel ∷ later) lanes
-one_pushed n parcel later [] k lane is here = absurd (none-some lane here)
-one_pushed n parcel later (x ∷ xs) zero lane is here =
-    let same : x ≡ lane = same_Some x lane here in
+one_pushed : (n : ℕ) (parcel : Parcel) (later : List Parcel) (ways : List Way) (k : ℕ) (way : Way) → parcel.place.dest ≡ n + k → slice_get ways k ≡ Some way
+    → pushed_from n later (set ways k (with_parcel way parcel)) ≡ pushed_from n (parcel ∷ later) ways
+one_pushed n parcel later [] k way is here = absurd (none-some way here)
+one_pushed n parcel later (x ∷ xs) zero way is here =
+    let same : x ≡ way = same_Some x way here in
     let this : (parcel.place.dest == n) ≡ true = eq-eqb _ _ (omega (arith, is)) in
-    let queue : (lane.queue ++ parcel ∷ []) ++ parcels_for n later ≡ x.queue ++ parcels_for n (parcel ∷ later) =
+    let queue : (way.queue ++ parcel ∷ []) ++ parcels_for n later ≡ x.queue ++ parcels_for n (parcel ∷ later) =
     ap (λ (l : Way). (l.queue ++ parcel ∷ []) ++ parcels_for n later) (sym same)
     ∙ append_assoc x.queue (parcel ∷ []) (parcels_for n later)
     ∙ ap (λ (b : Bool). x.queue ++ (if b then parcel ∷ parcels_for n later else parcels_for n later)) (sym this) in
-    let outbox : lane.outbox ≡ x.outbox = ap (λ (l : Way). l.outbox) (sym same) in
+    let outbox : way.outbox ≡ x.outbox = ap (λ (l : Way). l.outbox) (sym same) in
     let rest : pushed_from (n + 1) later xs ≡ pushed_from (n + 1) (parcel ∷ later) xs = sym (not_reached (n + 1) parcel later xs (λ k below e. absurd (omega (arith, is, e)))) in
     λ i. record { queue = queue i; outbox = outbox i } ∷ rest i
-one_pushed n parcel later (x ∷ xs) (suc k) lane is here =
+one_pushed n parcel later (x ∷ xs) (suc k) way is here =
     let other : (parcel.place.dest == n) ≡ false = ne_eqb _ _ (λ e. absurd (omega (arith, is, e))) in
-    let rest = one_pushed (n + 1) parcel later xs k lane (omega (arith, is)) here in
+    let rest = one_pushed (n + 1) parcel later xs k way (omega (arith, is)) here in
     λ i. record { queue = x.queue ++ (if sym other i then parcel ∷ parcels_for n later else parcels_for n later); outbox = x.outbox } ∷ rest i
 
 -- a parcel is pushed on its way
@@ -100,11 +100,6 @@ pub pushed_here : (parcel : Parcel) (later : List Parcel) (ways : List WayState)
 pushed_here parcel later ways k way new is here gives =
     ap (pushed_from 0 later) (map-set (λ (l : WayState). l.way) ways k new ∙ ap (set (ways_of ways) k) gives)
     ∙ one_pushed 0 parcel later (ways_of ways) k way.way (omega (arith, is)) (slice_get-map (λ (l : WayState). l.way) ways k ∙ ap (option_map (λ (l : WayState). l.way)) here)
-
--- there is no way for a parcel
-pub pushed_nowhere : (parcel : Parcel) (later : List Parcel) (lanes : List Way) → (length lanes ≤ parcel.place.dest)
-    → pushed_from 0 later lanes ≡ pushed_from 0 (parcel ∷ later) lanes
-pushed_nowhere parcel later lanes past = sym (not_reached 0 parcel later lanes (λ k below e. absurd (omega (arith, past, below, e))))
 
 -- ---- the parcels of an entry
 
@@ -188,14 +183,14 @@ load_sent (offered.Event event) dests d = refl
 load_sent (offered.Edu edu) dests d = refl
 
 -- the parcels of what is offered, each on its way
-pub all_sent : (offered : Offered) (dests : List ℕ) (entries : List Entry) → IsStrictlyIncreasing dests → (n : ℕ) (lanes : List Way)
-    → pushed_from n (filter_map (parcel_to entries (load_of offered)) dests) lanes ≡ ways_from n entries (entry_of offered dests) lanes
+pub all_sent : (offered : Offered) (dests : List ℕ) (entries : List Entry) → IsStrictlyIncreasing dests → (n : ℕ) (ways : List Way)
+    → pushed_from n (filter_map (parcel_to entries (load_of offered)) dests) ways ≡ ways_from n entries (entry_of offered dests) ways
 all_sent offered dests entries rising n [] = refl
-all_sent offered dests entries rising n (lane ∷ lanes) =
+all_sent offered dests entries rising n (way ∷ ways) =
     let parcels : parcels_for n (filter_map (parcel_to entries (load_of offered)) dests) ≡ option_to_list (parcel_after entries (entry_of offered dests) n) =
     placed_where entries (load_of offered) n dests (AllPairs-from_increasing dests rising)
     ∙ ap (λ l. option_to_list (parcel_where entries (load_of offered) n (is_closed entries n) l)) (load_sent offered dests n) in
-    λ i. record { queue = lane.queue ++ parcels i; outbox = lane.outbox } ∷ all_sent offered dests entries rising (n + 1) lanes i
+    λ i. record { queue = way.queue ++ parcels i; outbox = way.outbox } ∷ all_sent offered dests entries rising (n + 1) ways i
 
 -- how many they are
 pub count_sent : (load : Load) (dests : List ℕ) (entries : List Entry) → length (filter_map (parcel_to entries load) dests) ≡ length (open_among entries dests)
@@ -205,12 +200,30 @@ count_sent load (x ∷ xs) entries =
     length (cons_option to (filter_map (parcel_to entries load) xs)) ≡ length (if not closed then x ∷ open_among entries xs else open_among entries xs))
     [ true ↦ count_sent load xs entries | false ↦ ap suc (count_sent load xs entries) ]
 
+-- they are for servers among so many, where these are
+pub are_for : (entries : List Entry) (load : Load) (count : ℕ) (dests : List ℕ) → AreAmong count dests → AreFor count (filter_map (parcel_to entries load) dests)
+are_for entries load count [] among = λ k parcel e. absurd (none-some parcel e)
+are_for entries load count (d ∷ dests) among =
+    let rest : AreFor count (filter_map (parcel_to entries load) dests) = are_for entries load count dests (λ x e. among x (later x (d == x) e)) in
+    elim (is_closed entries d) as (λ closed. AreFor count
+    (cons_option (option_map (λ place. record { place = place; load = load }) (if closed then None else Some (record { dest = d; number = placed entries d + 1 }))) (filter_map (parcel_to entries load) dests)))
+    [ true ↦ rest | false ↦ by rest ]
+  where
+    -- one that is among the others is among all
+    later : (x : ℕ) (same : Bool) → is_among dests x ≡ true → (same || is_among dests x) ≡ true
+    later x true e = refl
+    later x false e = e
+
+    by : AreFor count (filter_map (parcel_to entries load) dests) → AreFor count (record { place = record { dest = d; number = placed entries d + 1 }; load = load } ∷ filter_map (parcel_to entries load) dests)
+    by rest zero parcel e = subst (λ (p : Parcel). p.place.dest < count) (same_Some _ parcel e) (among d (ap (λ b. b || is_among dests d) (eq-eqb d d refl)))
+    by rest (suc k) parcel e = rest k parcel e
+
 -- the end that a closing places
-pub end_sent : (d : ℕ) (entries : List Entry) → is_closed entries d ≡ false → (n : ℕ) (lanes : List Way)
-    → pushed_from n (record { place = record { dest = d; number = placed entries d + 1 }; load = load.End } ∷ []) lanes ≡ ways_from n entries (entry.Close d Asked) lanes
+pub end_sent : (d : ℕ) (entries : List Entry) → is_closed entries d ≡ false → (n : ℕ) (ways : List Way)
+    → pushed_from n (record { place = record { dest = d; number = placed entries d + 1 }; load = load.End } ∷ []) ways ≡ ways_from n entries (entry.Close d Asked) ways
 end_sent d entries is_open n [] = refl
-end_sent d entries is_open n (lane ∷ lanes) =
-    λ i. record { queue = lane.queue ++ parcels i; outbox = lane.outbox } ∷ end_sent d entries is_open (n + 1) lanes i
+end_sent d entries is_open n (way ∷ ways) =
+    λ i. record { queue = way.queue ++ parcels i; outbox = way.outbox } ∷ end_sent d entries is_open (n + 1) ways i
   where
     this : Parcel
     this = record { place = record { dest = d; number = placed entries d + 1 }; load = load.End }

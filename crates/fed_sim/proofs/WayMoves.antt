@@ -36,11 +36,11 @@ use Rattle.fed_sim.proofs.Landing.{SentState, IsTakable, kept_for, Lands, lands_
 -- ---- what is known of all ways
 
 pub record Laws : Type 0 where
-  pub entered : (d : ℕ) (entries : List Entry) (entry : Entry) (lane : Way) → Follows d (parcels entries d) lane
-      → Follows d (parcels (entries ++ entry ∷ []) d) (record { queue = queue_after entries entry d lane.queue; outbox = lane.outbox })
-  pub collected : (d : ℕ) (entries : List Entry) (lane : Way) → Follows d (parcels entries d) lane → Follows d (parcels entries d) (collected lane)
-  pub events : (d : ℕ) (entries : List Entry) (lane : Way) → Follows d (parcels entries d) lane → addressed entries d ≡ accepted lane.outbox ++ events_of lane.queue
-  pub edus : (d : ℕ) (entries : List Entry) (lane : Way) → Follows d (parcels entries d) lane → addressed_edus entries d ≡ accepted_edus lane.outbox ++ parcels_in.edus_of lane.queue
+  pub entered : (d : ℕ) (entries : List Entry) (entry : Entry) (way : Way) → Follows d (parcels entries d) way
+      → Follows d (parcels (entries ++ entry ∷ []) d) (record { queue = queue_after entries entry d way.queue; outbox = way.outbox })
+  pub collected : (d : ℕ) (entries : List Entry) (way : Way) → Follows d (parcels entries d) way → Follows d (parcels entries d) (collected way)
+  pub events : (d : ℕ) (entries : List Entry) (way : Way) → Follows d (parcels entries d) way → addressed entries d ≡ accepted way.outbox ++ events_of way.queue
+  pub edus : (d : ℕ) (entries : List Entry) (way : Way) → Follows d (parcels entries d) way → addressed_edus entries d ≡ accepted_edus way.outbox ++ parcels_in.edus_of way.queue
 
 -- an ephemeral data unit that its receiver takes
 pub record IsSoundEdu (edu : Data) : Type 0 where
@@ -53,23 +53,23 @@ sent_of o = record { settled = o.settled; settled_edus = o.settled_edus; unanswe
 
 -- ---- a way, and what its receiver took
 
-pub record IsHeld (o d epoch : ℕ) (name other : List ℕ) (journal : List Entry) (lane : Way) (log : LogState) (packets : List PacketState) : Type 0 where
+pub record IsHeld (o d epoch : ℕ) (name other : List ℕ) (journal : List Entry) (way : Way) (log : LogState) (packets : List PacketState) : Type 0 where
   pub sound : All IsSoundEdu (edus_of journal)
-  pub follows : Follows d (parcels journal d) lane
-  pub lands : Lands o d epoch name other (sent_of lane.outbox) log packets
+  pub follows : Follows d (parcels journal d) way
+  pub lands : Lands o d epoch name other (sent_of way.outbox) log packets
 
 module _ (laws : Laws) (o d epoch : ℕ) (name other : List ℕ) (log : LogState) (packets : List PacketState) where
-  pub held_entered : (journal : List Entry) (entry : Entry) (lane : Way) → All IsSoundEdu (edus_of (journal ++ entry ∷ [])) → IsHeld o d epoch name other journal lane log packets
-      → IsHeld o d epoch name other (journal ++ entry ∷ []) (record { queue = queue_after journal entry d lane.queue; outbox = lane.outbox }) log packets
-  held_entered journal entry lane sound h = record { sound = sound; follows = laws.entered d journal entry lane h.follows; lands = h.lands }
+  pub held_entered : (journal : List Entry) (entry : Entry) (way : Way) → All IsSoundEdu (edus_of (journal ++ entry ∷ [])) → IsHeld o d epoch name other journal way log packets
+      → IsHeld o d epoch name other (journal ++ entry ∷ []) (record { queue = queue_after journal entry d way.queue; outbox = way.outbox }) log packets
+  held_entered journal entry way sound h = record { sound = sound; follows = laws.entered d journal entry way h.follows; lands = h.lands }
 
   module _ (journal : List Entry) where
     abbrev Held : Way → Type 0
-    Held lane = IsHeld o d epoch name other journal lane log packets
+    Held way = IsHeld o d epoch name other journal way log packets
 
     -- as much is sent as before
-    held_same : (lane new : Way) → Follows d (parcels journal d) new → sent_of new.outbox ≡ sent_of lane.outbox → Held lane → Held new
-    held_same lane new follows same h = record { sound = h.sound; follows = follows; lands = subst (λ s. Lands o d epoch name other s log packets) (sym same) h.lands }
+    held_same : (way new : Way) → Follows d (parcels journal d) new → sent_of new.outbox ≡ sent_of way.outbox → Held way → Held new
+    held_same way new follows same h = record { sound = h.sound; follows = follows; lands = subst (λ s. Lands o d epoch name other s log packets) (sym same) h.lands }
 
     -- ---- collecting
 
@@ -92,8 +92,8 @@ module _ (laws : Laws) (o d epoch : ℕ) (name other : List ℕ) (log : LogState
         by true = loaded outbox parcel.load
         by false = refl
 
-    pub held_collected : (lane : Way) → Held lane → Held (collecting lane).1
-    held_collected lane h = held_same lane (collected lane) (laws.collected d journal lane h.follows) (collected_sends lane.queue lane.outbox) h
+    pub held_collected : (way : Way) → Held way → Held (collecting way).1
+    held_collected way h = held_same way (collected way) (laws.collected d journal way h.follows) (collected_sends way.queue way.outbox) h
 
     -- ---- failing
 
@@ -104,20 +104,20 @@ module _ (laws : Laws) (o d epoch : ℕ) (name other : List ℕ) (log : LogState
         by true = refl
         by false = refl
 
-    held_after_failure : (lane : Way) (n now : ℕ) → Held lane → Held (with_outbox lane (failed lane.outbox n now))
-    held_after_failure lane n now h = held_same lane (with_outbox lane (failed lane.outbox n now)) (call_follows d (parcels journal d) lane (Failed n now) refl h.follows) (failed_sends lane.outbox n now) h
+    held_after_failure : (way : Way) (n now : ℕ) → Held way → Held (with_outbox way (failed way.outbox n now))
+    held_after_failure way n now h = held_same way (with_outbox way (failed way.outbox n now)) (call_follows d (parcels journal d) way (Failed n now) refl h.follows) (failed_sends way.outbox n now) h
 
-    pub held_failed : (now : ℕ) (lane : Way) → Held lane → Held (failing now lane).1
-    held_failed now lane h = by lane.outbox.unanswered refl
+    pub held_failed : (now : ℕ) (way : Way) → Held way → Held (failing now way).1
+    held_failed now way h = by way.outbox.unanswered refl
       where
-        by : (u : Option TransactionValue) → lane.outbox.unanswered ≡ u → Held (with_outbox lane (failed_once lane.outbox now))
-        by None e = subst (λ x. Held (with_outbox lane x)) (sym (same e)) h
+        by : (u : Option TransactionValue) → way.outbox.unanswered ≡ u → Held (with_outbox way (failed_once way.outbox now))
+        by None e = subst (λ x. Held (with_outbox way x)) (sym (same e)) h
           where
-            same : lane.outbox.unanswered ≡ None → failed_once lane.outbox now ≡ lane.outbox
+            same : way.outbox.unanswered ≡ None → failed_once way.outbox now ≡ way.outbox
             same is = rw is refl
-        by (Some t) e = subst (λ x. Held (with_outbox lane x)) (sym (same e)) (held_after_failure lane t.number now h)
+        by (Some t) e = subst (λ x. Held (with_outbox way x)) (sym (same e)) (held_after_failure way t.number now h)
           where
-            same : lane.outbox.unanswered ≡ Some t → failed_once lane.outbox now ≡ failed lane.outbox t.number now
+            same : way.outbox.unanswered ≡ Some t → failed_once way.outbox now ≡ failed way.outbox t.number now
             same is = rw is refl
 
 -- what is settled, when the unanswered transaction is answered
@@ -176,73 +176,73 @@ takable outbox now early sound =
 
 module _ (laws : Laws) (o d epoch : ℕ) (name other : List ℕ) (log : LogState) (packets : List PacketState) (journal : List Entry) where
   abbrev HeldThen : Way → Type 0
-  HeldThen lane = IsHeld o d epoch name other journal lane log packets
+  HeldThen way = IsHeld o d epoch name other journal way log packets
 
   abbrev LandsThen : SentState → Type 0
   LandsThen s = Lands o d epoch name other s log packets
 
   -- ---- cutting
 
-  pub held_cut : (now : ℕ) → now ≤ 9007199254740991 → (lane : Way) → HeldThen lane → HeldThen (cutting now lane).1
-  held_cut now early lane h = by (cases_Bool (can_cut lane.outbox))
+  pub held_cut : (now : ℕ) → now ≤ 9007199254740991 → (way : Way) → HeldThen way → HeldThen (cutting now way).1
+  held_cut now early way h = by (cases_Bool (can_cut way.outbox))
     where
-      waiting_sound : All IsSoundEdu lane.outbox.waiting_edus
+      waiting_sound : All IsSoundEdu way.outbox.waiting_edus
       waiting_sound =
           let all = addressed_sound IsSoundEdu d journal h.sound in
-          let split = subst (All IsSoundEdu) (laws.edus d journal lane h.follows) all in
-          let accepted = all_left IsSoundEdu (accepted_edus lane.outbox) (parcels_in.edus_of lane.queue) split in
-          all_right IsSoundEdu (unanswered_edus lane.outbox.unanswered) lane.outbox.waiting_edus
-          (all_right IsSoundEdu lane.outbox.settled_edus (unanswered_edus lane.outbox.unanswered ++ lane.outbox.waiting_edus) accepted)
+          let split = subst (All IsSoundEdu) (laws.edus d journal way h.follows) all in
+          let accepted = all_left IsSoundEdu (accepted_edus way.outbox) (parcels_in.edus_of way.queue) split in
+          all_right IsSoundEdu (unanswered_edus way.outbox.unanswered) way.outbox.waiting_edus
+          (all_right IsSoundEdu way.outbox.settled_edus (unanswered_edus way.outbox.unanswered ++ way.outbox.waiting_edus) accepted)
 
-      by : (can_cut lane.outbox ≡ true) ⊎ (can_cut lane.outbox ≡ false) → HeldThen (with_outbox lane (cut lane.outbox now))
-      by (inr nothing) = subst (λ x. HeldThen (with_outbox lane x)) (sym same) h
+      by : (can_cut way.outbox ≡ true) ⊎ (can_cut way.outbox ≡ false) → HeldThen (with_outbox way (cut way.outbox now))
+      by (inr nothing) = subst (λ x. HeldThen (with_outbox way x)) (sym same) h
         where
-          same : cut lane.outbox now ≡ lane.outbox
+          same : cut way.outbox now ≡ way.outbox
           same = rw nothing refl
       by (inl can) =
-          let t = next_transaction lane.outbox now in
-          let none = none_unanswered lane.outbox can in
+          let t = next_transaction way.outbox now in
+          let none = none_unanswered way.outbox can in
           record {
             sound = h.sound;
-            follows = call_follows d (parcels journal d) lane (Cut now) refl h.follows;
+            follows = call_follows d (parcels journal d) way (Cut now) refl h.follows;
             lands =
-                subst LandsThen (sym (ap sent_of (cut_where lane.outbox now can)))
-                (lands_cut o d epoch name other lane.outbox.settled lane.outbox.settled_edus lane.outbox.last log packets t refl (takable lane.outbox now early waiting_sound)
-                (subst (λ u. LandsThen (record { settled = lane.outbox.settled; settled_edus = lane.outbox.settled_edus; unanswered = u; last = lane.outbox.last })) none h.lands));
+                subst LandsThen (sym (ap sent_of (cut_where way.outbox now can)))
+                (lands_cut o d epoch name other way.outbox.settled way.outbox.settled_edus way.outbox.last log packets t refl (takable way.outbox now early waiting_sound)
+                (subst (λ u. LandsThen (record { settled = way.outbox.settled; settled_edus = way.outbox.settled_edus; unanswered = u; last = way.outbox.last })) none h.lands));
           }
 
   -- ---- settling
 
   -- transaction n is answered with a status; where that is 200 its reply is kept
-  pub held_settled : (n now : ℕ) (status : Option ℕ) (lane : Way) → (status ≡ Some 200 → (reply : List ℕ) × (kept_for log epoch n ≡ Some reply)) → HeldThen lane → HeldThen (settling n status now lane).1
-  held_settled n now None lane kept h = held_after_failure laws o d epoch name other log packets journal lane n now h
-  held_settled n now (Some status) lane kept h = by (cases_Bool (has_number lane.outbox.unanswered n)) (cases_Bool (status == 200))
+  pub held_settled : (n now : ℕ) (status : Option ℕ) (way : Way) → (status ≡ Some 200 → (reply : List ℕ) × (kept_for log epoch n ≡ Some reply)) → HeldThen way → HeldThen (settling n status now way).1
+  held_settled n now None way kept h = held_after_failure laws o d epoch name other log packets journal way n now h
+  held_settled n now (Some status) way kept h = by (cases_Bool (has_number way.outbox.unanswered n)) (cases_Bool (status == 200))
     where
-      follows : Follows d (parcels journal d) (with_outbox lane (settle lane.outbox n status now))
-      follows = call_follows d (parcels journal d) lane (Settle n status now) refl h.follows
+      follows : Follows d (parcels journal d) (with_outbox way (settle way.outbox n status now))
+      follows = call_follows d (parcels journal d) way (Settle n status now) refl h.follows
 
-      same : sent_of (settle lane.outbox n status now) ≡ sent_of lane.outbox → HeldThen (with_outbox lane (settle lane.outbox n status now))
-      same is = held_same laws o d epoch name other log packets journal lane (with_outbox lane (settle lane.outbox n status now)) follows is h
+      same : sent_of (settle way.outbox n status now) ≡ sent_of way.outbox → HeldThen (with_outbox way (settle way.outbox n status now))
+      same is = held_same laws o d epoch name other log packets journal way (with_outbox way (settle way.outbox n status now)) follows is h
 
       numbered : (u : Option TransactionValue) → has_number u n ≡ true → (t : TransactionValue) × (u ≡ Some t) × (t.number ≡ n)
       numbered None e = absurd (cc)
       numbered (Some t) e = (t, refl, eqb-true t.number n e)
 
-      by : (has_number lane.outbox.unanswered n ≡ true) ⊎ (has_number lane.outbox.unanswered n ≡ false) → ((status == 200) ≡ true) ⊎ ((status == 200) ≡ false)
-          → HeldThen (with_outbox lane (settle lane.outbox n status now))
+      by : (has_number way.outbox.unanswered n ≡ true) ⊎ (has_number way.outbox.unanswered n ≡ false) → ((status == 200) ≡ true) ⊎ ((status == 200) ≡ false)
+          → HeldThen (with_outbox way (settle way.outbox n status now))
       by (inr other_one) good = same (rw other_one refl)
       by (inl this) (inr bad) = same (rw (this, bad) refl)
       by (inl this) (inl good) =
-          let t = numbered lane.outbox.unanswered this in
+          let t = numbered way.outbox.unanswered this in
           let reply = kept (ap Some (eqb-true status 200 good)) in
-          let settled_so : settle lane.outbox n status now ≡ taken lane.outbox = rw (this, good) refl in
-          let sent_then : sent_of (taken lane.outbox) ≡ record { settled = lane.outbox.settled ++ t.0.pdus; settled_edus = lane.outbox.settled_edus ++ t.0.edus; unanswered = None; last = lane.outbox.last } =
-          ap (λ u. sent_after lane.outbox.settled lane.outbox.settled_edus u lane.outbox.last) t.1 in
+          let settled_so : settle way.outbox n status now ≡ taken way.outbox = rw (this, good) refl in
+          let sent_then : sent_of (taken way.outbox) ≡ record { settled = way.outbox.settled ++ t.0.pdus; settled_edus = way.outbox.settled_edus ++ t.0.edus; unanswered = None; last = way.outbox.last } =
+          ap (λ u. sent_after way.outbox.settled way.outbox.settled_edus u way.outbox.last) t.1 in
           record {
             sound = h.sound;
             follows = follows;
             lands =
                 subst LandsThen (sym (ap sent_of settled_so ∙ sent_then))
-                (lands_settled o d epoch name other lane.outbox.settled lane.outbox.settled_edus lane.outbox.last log packets t.0 reply.0 (ap (kept_for log epoch) t.2 ∙ reply.1)
-                (subst (λ u. LandsThen (record { settled = lane.outbox.settled; settled_edus = lane.outbox.settled_edus; unanswered = u; last = lane.outbox.last })) t.1 h.lands));
+                (lands_settled o d epoch name other way.outbox.settled way.outbox.settled_edus way.outbox.last log packets t.0 reply.0 (ap (kept_for log epoch) t.2 ∙ reply.1)
+                (subst (λ u. LandsThen (record { settled = way.outbox.settled; settled_edus = way.outbox.settled_edus; unanswered = u; last = way.outbox.last })) t.1 h.lands));
           }

@@ -1,0 +1,60 @@
+-- Worlds that come of runs: by each step they come of one still.
+use Rattle.std.proofs.Common.{◌≡◌, ℕ, List, [], ◌∷◌, ◌++◌, Result, Ok, Err, IfOk, OnErr, refl, sym, ap, subst}
+use Rattle.std.proofs.Math.Logic.{∥∥₁_map}
+use Rattle.fed_sim.specs.declared.outcome.Outcome.{Outcome}
+use Rattle.fed_sim.specs.declared.outcome.Outcome.TheVariants as outcome
+use Rattle.fed_sim.specs.declared.step.Step.{Step}
+use Rattle.fed_sim.specs.declared.step.Step.TheVariants as step
+use Rattle.fed_sim.specs.Arriving.{IsArrivedInPart, IsGivenTo, unknown_room, known_room, IsGivenInPart}
+use Rattle.fed_sim.specs.Running.{ComesOfRun}
+use Rattle.fed_sim.specs.Steps.{Moves, given, Reached, no_step, one_more, in_it, Does, Makes, made, refused, next}
+use Rattle.fed_sim.specs.World.{WorldState, with_server, AtServer, nowhere, somewhere, AtServerInPart}
+use Rattle.fed_sim.specs.Server.{ServerState}
+use Rattle.fed_sim.proofs.Between.{set_same}
+
+abbrev pub with_servers : WorldState → List ServerState → WorldState
+with_servers w states = record { names = w.names; known = w.known; epoch = w.epoch; servers = states; packets = w.packets; now = w.now }
+
+abbrev pub Comes : WorldState → Type 0
+Comes w = ∥ ComesOfRun w ∥₁
+
+one_step_more : (step : Step) (old : WorldState) (told : Outcome) (new : WorldState) → Makes step old told new → ComesOfRun old → ComesOfRun new
+one_step_more step old told new makes c = record {
+  setup = c.setup;
+  steps = c.steps ++ step ∷ [];
+  replies = c.replies ++ told ∷ [];
+  ran = record { begin = c.ran.begin; begins = c.ran.begins; ran = next c.steps c.replies old new step told c.ran.ran makes };
+}
+
+pub comes_by : (step : Step) (old : WorldState) (told : Outcome) (new : WorldState) → Does step old told new → Comes old → Comes new
+comes_by step old told new does comes = ∥∥₁_map comes (one_step_more step old told new (made does))
+
+pub comes_same : (old new : WorldState) → new ≡ old → Comes old → Comes new
+comes_same old new same = subst Comes (sym same)
+
+pub comes_reached : (old new : WorldState) → Reached old new → Comes old → Comes new
+comes_reached old new reached = comes_by (step.Calm 0) old (outcome.Calm new.now) new (refl, reached)
+
+pub comes_moved : (old : WorldState) (told : Outcome) (new : WorldState) → Moves old told new → Comes old → Comes new
+comes_moved old told new moves = comes_reached old new (one_more old new told no_step moves)
+
+pub comes_in_part : (old new : WorldState) (server place : ℕ) → AtServerInPart server (IsArrivedInPart place) old new → Comes old → Comes new
+comes_in_part old new server place is comes = ∥∥₁_map comes (one_step_more (step.Calm 0) old outcome.NoMemory new (refused refl (in_it old server place no_step is)))
+
+-- a room is given an event
+pub comes_given : (server : ℕ) (known : List (List ℕ)) (id : List ℕ) (old : WorldState) (told : Outcome) (new : WorldState) → AtServer server (IsGivenTo known id) old told new → Comes old → Comes new
+comes_given server known id old _ _ (nowhere none) comes = comes
+comes_given server known id old _ _ (somewhere told before after at is) comes = by told after is
+  where
+    by : (told : Outcome) (after : ServerState) → IsGivenTo known id before told after → Comes (with_server old server after)
+    by _ _ (unknown_room none) = comes_same old (with_server old server before) (ap (with_servers old) (set_same old.servers server before at)) comes
+    by _ _ (known_room told after place is arrives) = comes_moved old told (with_server old server after) (given server place (somewhere told before after at arrives)) comes
+
+pub comes_given_in_part : (server : ℕ) (known : List (List ℕ)) (id : List ℕ) (old new : WorldState) → AtServerInPart server (IsGivenInPart known id) old new → Comes old → Comes new
+comes_given_in_part server known id old new is =
+    comes_in_part old new server is.does.place (record { before = is.before; after = is.after; server_is = is.server_is; does = is.does.in_part; new_is = is.new_is })
+
+-- by what is done, or as it was
+pub comes_either : {E : Type 0} (r : Result Outcome E) (old new : WorldState) (Did : Outcome → Type 0) → ((told : Outcome) → Did told → Comes old → Comes new) → IfOk r Did → OnErr r (new ≡ old) → Comes old → Comes new
+comes_either (Ok told) old new Did by did same = by told did
+comes_either (Err e) old new Did by did same = comes_same old new same
