@@ -1,0 +1,4 @@
+pub mod Spreads
+pub mod Entered
+pub mod Closed
+pub mod Kept

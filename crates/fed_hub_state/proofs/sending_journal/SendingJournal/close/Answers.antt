@@ -1,0 +1,70 @@
+use Rattle.std.proofs.Common.{arith, ◌≡◌, ◌∷◌, ◌++◌, [], ℕ, true, List, Some, Ok, length, set, get_or, sym, ap, ◌∙◌, subst}
+use Rattle.fed_journal.specs.declared.entry.Entry.{Entry}
+use Rattle.fed_journal.specs.declared.entry.Entry.TheVariants.{Close}
+use Rattle.fed_journal.specs.declared.parcel.Parcel.{Parcel}
+use Rattle.fed_journal.specs.Journal.{is_closed, placed, next_place, events_of, edus_of}
+use Rattle.fed_journal.proofs.Entries.{next_number}
+use Rattle.fed_wires.specs.SendEnd.{Sender}
+use Rattle.fed_hub_state.specs.Closing.{Closes, before, now}
+use Rattle.fed_hub_state.specs.SendingJournal.{SendingState}
+use Rattle.fed_hub_state.specs.Spreading.{AreSent}
+use Rattle.fed_hub_state.proofs.Spreads.{none_placed, open_closes, count_placed, standing}
+use Rattle.fed_hub_state.proofs.Closed.{closed, same_events, same_edus, stays_closed, no_room_told}
+use Rattle.fed_hub_state.proofs.sending_journal.SendingJournal.close.Goals as goal
+
+pub returns-in_default : goal.returns-in_default
+returns-in_default g c =
+    before (ap (λ (s : SendingState). is_closed s.entries c.args.dest) (sym c.self.view_is) ∙ none_placed c.self.inside.journal.entries c.args.dest (sym c.place.ensures ∙ c.in_default.is))
+
+pub returns-in_err-make_room : goal.returns-in_err-make_room
+returns-in_err-make_room g c =
+    let old : SendingState = record { entries = c.self.inside.journal.entries; is_shut = c.self.inside.is_shut } in
+    let running = open_closes old.entries c.args.dest c.in-Some.place (sym c.place.ensures ∙ c.in-Some.is) in
+    subst (λ (y : SendingState × SendingState). Closes c.args.dest y.0 c.from_residual.result y.1)
+    (λ i. (c.self.view_is i, record { entries = sym c.in_err-make_room.ensures.entries i; is_shut = c.self.inside.is_shut }))
+    (no_room_told c.args.dest old c.in_err-make_room.field-0.0 c.from_residual.result running c.in_err-make_room.ensures.refused c.from_residual.ensures.0 c.from_residual.ensures.1)
+
+pub close_open-requires-clause-sent : goal.close_open-requires-clause-sent
+close_open-requires-clause-sent g c =
+    let entries = c.self.inside.journal.entries in
+    let next = sym c.place.ensures ∙ c.in-Some.is in
+    let here = standing c.self.inside.ends.items c.place-2.result c.args.dest c.index_mut-end.result.now c.place-2.ensures.place (omega (arith, c.requires, c.self.invariant.0.count)) in
+    ap (λ (e : Sender Parcel). length e.sent) c.index_mut-end.ensures.value
+    ∙ ap length (c.self.invariant.0.each c.args.dest (get_or c.self.inside.ends.items c.place-2.result c.index_mut-end.result.now) here).sent
+    ∙ count_placed entries c.args.dest
+    ∙ ap (placed entries) (sym (next_number entries c.args.dest c.in-Some.place next).0)
+    ∙ ap (λ (es : List Entry). placed es c.in-Some.place.dest) (sym c.in_ok-make_room.ensures.entries)
+
+pub invariant_of-self-2 : goal.invariant_of-self-2
+invariant_of-self-2 g c =
+    let j = c.make_room.new.journal in
+    let ends = c.self.inside.ends.items in
+    let new = c.close_open.new.end in
+    let d = c.args.dest in
+    let same = c.in_ok-make_room.ensures.entries in
+    let next : next_place j.entries d ≡ Some c.in-Some.place = ap (λ es. next_place es d) same ∙ sym c.place.ensures ∙ c.in-Some.is in
+    let here = standing ends c.place-2.result d c.index_mut-end.result.now c.place-2.ensures.place (omega (arith, c.requires, c.self.invariant.0.count)) ∙ ap Some (sym c.index_mut-end.ensures.value) in
+    let shut = closed g.N.Naming.wires j ends (subst (λ (es : List Entry). AreSent g.N.Naming.wires es ends) (sym same) c.self.invariant.0) d c.in-Some.place c.index_mut-end.result.now next here c.close_open.new.journal new c.close_open.ensures in
+    let entries : c.close_open.new.journal.entries ≡ c.self.inside.journal.entries ++ Close d shut.0 ∷ [] = shut.1.0 ∙ ap (λ es. es ++ Close d shut.0 ∷ []) same in
+    let old = c.self.inside.journal.entries in (
+      subst (λ (y : List Entry × ℕ). AreSent g.N.Naming.wires y.0 (set ends y.1 new)) (λ i. (sym shut.1.0 i, sym c.place-2.ensures.place i)) shut.1.1,
+      c.self.invariant.1 ∙ ap length (sym (same_events old d shut.0)) ∙ ap (λ es. length (events_of es)) (sym entries),
+      c.self.invariant.2 ∙ ap length (sym (same_edus old d shut.0)) ∙ ap (λ es. length (edus_of es)) (sym entries),
+      λ is e within. ap (λ es. is_closed es e) entries ∙ stays_closed old (Close d shut.0 ∷ []) e (c.self.invariant.3 is e within),
+    )
+
+pub returns : goal.returns
+returns g c =
+    let j = c.make_room.new.journal in
+    let ends = c.self.inside.ends.items in
+    let new = c.close_open.new.end in
+    let d = c.args.dest in
+    let same = c.in_ok-make_room.ensures.entries in
+    let next : next_place j.entries d ≡ Some c.in-Some.place = ap (λ es. next_place es d) same ∙ sym c.place.ensures ∙ c.in-Some.is in
+    let here = standing ends c.place-2.result d c.index_mut-end.result.now c.place-2.ensures.place (omega (arith, c.requires, c.self.invariant.0.count)) ∙ ap Some (sym c.index_mut-end.ensures.value) in
+    let shut = closed g.N.Naming.wires j ends (subst (λ (es : List Entry). AreSent g.N.Naming.wires es ends) (sym same) c.self.invariant.0) d c.in-Some.place c.index_mut-end.result.now next here c.close_open.new.journal new c.close_open.ensures in
+    let entries : c.close_open.new.journal.entries ≡ c.self.inside.journal.entries ++ Close d shut.0 ∷ [] = shut.1.0 ∙ ap (λ es. es ++ Close d shut.0 ∷ []) same in
+    let old : SendingState = record { entries = c.self.inside.journal.entries; is_shut = c.self.inside.is_shut } in
+    let running = open_closes old.entries d c.in-Some.place (sym c.place.ensures ∙ c.in-Some.is) in
+    subst (λ (y : SendingState × List Entry). Closes d y.0 (Ok true) (record { entries = y.1; is_shut = c.self.inside.is_shut })) (λ i. (c.self.view_is i, sym entries i))
+    (now shut.0 running c.in_ok-make_room.ensures.fits)

@@ -1,0 +1,19 @@
+-- What contracts see of a room under its lock: the room, the events that it began with, what it was given since, and for how many more inputs
+-- there is room.
+use Rattle.std.specs.Prelude.{ℕ, List, refl}
+use Rattle.std.specs.Coded.{Coded, code_by, coded×, coded_ℕ, coded_list}
+use Rattle.fed_event.specs.Checked.{CheckedEvent, checked_code}
+use Rattle.fed_room_contract.specs.declared.input.Input.{Input}
+use Rattle.fed_room_contract.specs.Runs.{input_code}
+use Rattle.fed_room.specs.Room.{RoomValue, room_code}
+
+pub record KeptState : Type 0 where
+  pub room : RoomValue
+  pub start : List CheckedEvent
+  pub inputs : List Input
+  pub free : ℕ
+
+abbrev pub kept_code : Coded KeptState
+kept_code =
+    code_by (RoomValue × (List CheckedEvent × (List Input × ℕ))) (coded× room_code (coded× (coded_list checked_code) (coded× (coded_list input_code) coded_ℕ)))
+    (λ k. (k.room, (k.start, (k.inputs, k.free)))) (λ p. record { room = p.0; start = p.1.0; inputs = p.1.1.0; free = p.1.1.1 }) (λ _. refl)

@@ -1,0 +1,11 @@
+pub mod ClientToken
+pub mod Spreading
+pub mod SpreadingParts
+pub mod SendingJournal
+pub mod NoRoom
+pub mod Entering
+pub mod EnterFault
+pub mod Closing
+pub mod Sections
+pub mod KeptRoom
+pub mod KeptRoomParts

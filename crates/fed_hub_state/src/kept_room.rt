@@ -1,0 +1,121 @@
+// A room under its lock.
+ghost use Rattle.std.specs.Prelude.{◌≡◌, ◌≢◌, ◌⊎◌, ◌<◌, ◌++◌, ◌∷◌, [], true, None, Some, Err, IfOk, IfErr, OnOk};
+
+use fed_event::{Checked, Keys};
+use fed_json::NoMemory;
+use fed_room::{Room, StartFault};
+use fed_room_contract::{Draft, Input, Prepared, Refusal, RoomEngine};
+use std::alloc::Global;
+use std::marker::Model;
+
+/// A room, with the events that it began with and all that it was given since, in order. Whenever its lock is free it is the room after these
+/// inputs, and it was given an event that it made of a draft only where it accepts it.
+///
+/// Contracts see it as these, and for how many more inputs there is room.
+#[derive(Drop)]
+pub struct KeptRoom {
+    room: Room,
+    start: Vec<Checked>,
+    inputs: Vec<Input>,
+}
+
+impl Model for KeptRoom {
+    ghost use Rattle.fed_hub_state.specs.KeptRoom.{KeptState, kept_code};
+
+    ghost Value = { KeptState };
+
+    ghost coded = { kept_code };
+
+    ghost use Rattle.fed_hub_state.specs.KeptRoomParts.{kept_of, IsKept};
+
+    ghost view = { kept_of };
+
+    ghost invariant = { IsKept };
+}
+
+impl KeptRoom {
+    ghost use Rattle.fed_room_contract.specs.declared.refusal.Refusal.TheVariants.{Memory};
+    ghost use Rattle.fed_room_contract.specs.declared.input.Input.TheVariants.{Commit};
+    ghost use Rattle.fed_room_contract.specs.declared.verdict.Verdict.TheVariants.{Accepted};
+    ghost use Rattle.fed_room_contract.specs.Graph.{is_ready};
+    ghost use Rattle.fed_room_contract.specs.Prepared.{signer_of, prepared_of};
+    ghost use Rattle.fed_room_contract.specs.Room.{committed, empty_room};
+    ghost use Rattle.fed_room.specs.declared.start_fault.StartFault.TheVariants as start;
+    ghost use Rattle.fed_room.specs.Room.{room_of, room_rules, IsPrepared};
+    ghost use Rattle.fed_room.specs.Start.{after_all, start_fault_of};
+
+    /// The room that begins with these events at the server of this name, as `Room::start`.
+    ///
+    /// # Errors
+    ///
+    /// Those of `Room::start`, and `Memory`.
+    pub fn start(alloc: Global, own: &str, events: Vec<Checked>) -> Result<KeptRoom, StartFault>
+        ensures room { IfOk result (λ kept. room_of kept.room ≡ after_all room_rules empty_room events.items) }
+        ensures start { IfOk result (λ kept. (kept.start ≡ events.items) × (kept.inputs ≡ [])) }
+        ensures passes { OnOk result (start_fault_of room_rules events.items ≡ None) }
+        ensures fails { IfErr result (λ fault. fault ≢ start.Memory → start_fault_of room_rules events.items ≡ Some fault) }
+    {
+        let start = copies(alloc, &events)?;
+        let room = Room::start(alloc, own, events)?;
+        Ok(KeptRoom {
+            room,
+            start,
+            inputs: Vec::new(alloc),
+        })
+    }
+
+    /// The room.
+    pub fn room(&self) -> &Room
+        ensures { result.now ≡ self.now.room }
+    {
+        &self.room
+    }
+
+    /// The event that the room makes of a draft, as `RoomEngine::prepare`, and room for keeping it as an input.
+    ///
+    /// # Errors
+    ///
+    /// Those of `RoomEngine::prepare`.
+    pub fn prepare<K: Keys>(
+        &mut self,
+        alloc: Global,
+        draft: Draft,
+        keys: &K,
+    ) -> Result<Prepared, Refusal>
+        ensures told { let signer = signer_of (K.own_name keys.now) (K.own_key keys.now) (K.own_signature keys.now) (K.checks keys.now) in
+            (result ≡ prepared_of room_rules signer (room_of self.old.room).stored draft) ⊎ (result ≡ Err Memory) }
+        ensures accepted { IfOk result (λ p. room_rules.decide (room_of self.old.room).stored p.event ≡ Accepted) }
+        ensures ready { IfOk result (λ p. is_ready (room_of self.old.room).stored p.event.event ≡ true) }
+        ensures prepared { IfOk result (λ p. IsPrepared self.new.room p) }
+        ensures free { OnOk result (0 < self.new.free) }
+        ensures stays { (room_of self.new.room ≡ room_of self.old.room) × (self.new.start ≡ self.old.start) × (self.new.inputs ≡ self.old.inputs) }
+    {
+        self.inputs.reserve(1)?;
+        self.room.prepare(alloc, draft, keys)
+    }
+
+    /// Stores an event that the room has made and accepts, and keeps it among the inputs. It takes no memory.
+    pub(crate) fn commit(&mut self, prepared: Prepared, input: Checked)
+        requires prepared { IsPrepared self.old.room prepared }
+        requires accepted { room_rules.decide (room_of self.old.room).stored prepared.event ≡ Accepted }
+        requires input { input ≡ prepared.event }
+        requires free { 0 < self.old.free }
+        ensures room { room_of self.new.room ≡ committed (room_of self.old.room) prepared.event }
+        ensures inputs { (self.new.start ≡ self.old.start) × (self.new.inputs ≡ self.old.inputs ++ Commit prepared.event ∷ []) }
+    {
+        self.room.commit(prepared);
+        // There is room for it.
+        self.inputs.push(Input::Commit(input)).unwrap();
+    }
+}
+
+// Equal events.
+fn copies(alloc: Global, events: &[Checked]) -> Result<Vec<Checked>, NoMemory>
+    ensures { IfOk result (λ copies. copies.items ≡ events.now) }
+{
+    let mut copies = Vec::with_capacity(alloc, events.len())?;
+    for event in events {
+        copies.push(event.copy(alloc)?)?;
+    }
+    Ok(copies)
+}

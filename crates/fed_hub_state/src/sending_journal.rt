@@ -1,0 +1,241 @@
+// The journal, and the ends that send of its wires.
+ghost use Rattle.std.specs.Prelude.{◌≡◌, ◌<◌, ◌+◌, ◌++◌, ◌∷◌, [], length, not, true, false, All, Ok, Err, Some, IfOk, IfErr, OnOk, OnErr};
+ghost use Rattle.std.specs.List.{filter};
+ghost use Rattle.fed_journal.specs.Journal.{is_closed, next_place, placed, events_of, edus_of};
+ghost use Rattle.fed_journal.specs.Offered.{load_of};
+ghost use Rattle.fed_journal.specs.Offering.{has_place};
+ghost use Rattle.fed_hub_state.specs.Closing.{ClosesOpen};
+ghost use Rattle.fed_hub_state.specs.NoRoom.{HasNoRoom};
+ghost use Rattle.fed_hub_state.specs.Spreading.{AreAll, dests_of};
+
+use crate::client_token::ClientToken;
+use crate::in_place::InPlace;
+use crate::naming::{EduLedger, EventLedger, Naming};
+use crate::spreading::{goes, pass_all_on};
+use crate::unplaced::Unplaced;
+use fed_dest::{ServerIndex, ServerSet};
+use fed_journal::{Cause, Entry, Journal, JournalFault, Load, Offered, Parcel, Place};
+use fed_json::NoMemory;
+use fed_wires::SendEnd;
+use std::alloc::Global;
+use std::marker::Model;
+use std::sync::Wait;
+use std::sync::ledger::{Blank, Book};
+use thiserror::Error;
+
+/// Why what is offered is not entered.
+#[derive(Clone, Copy, Debug, PartialEq, Eq, Error)]
+pub enum EnterFault {
+    /// Memory ran out.
+    #[error("out of memory")]
+    Memory,
+    /// The journal is shut down.
+    #[error("shut down")]
+    ShutDown,
+    /// There would be more than `MAX_ENTRIES` entries.
+    #[error("too many entries")]
+    Limit,
+}
+
+impl From<JournalFault> for EnterFault {
+    ghost use Rattle.std.specs.Prelude.{◌≡◌};
+    ghost use Rattle.fed_hub_state.specs.EnterFault.{enter_fault_of};
+
+    ghost from_gives = { λ fault told. told ≡ enter_fault_of fault };
+
+    fn from(fault: JournalFault) -> EnterFault {
+        match fault {
+            JournalFault::Memory => EnterFault::Memory,
+            JournalFault::Limit => EnterFault::Limit,
+        }
+    }
+}
+
+/// The journal of a server, with the ends that send of its wires and the books of what clients were told of. Over each wire went just the
+/// parcels that the journal places for its destination; an outbox is closed as lost only where a parcel came back; the books have as many
+/// events and EDUs as the journal; and where it is shut down, all outboxes are closed.
+///
+/// Contracts see it as the list of its entries, and whether it is shut down.
+#[derive(Drop)]
+pub struct SendingJournal<N: Naming> {
+    journal: Journal,
+    ends: Vec<SendEnd<Parcel, InPlace>>,
+    events: Book<EventLedger<N>>,
+    edus: Book<EduLedger<N>>,
+    is_shut: bool,
+}
+
+impl<N: Naming> Model for SendingJournal<N> {
+    ghost use Rattle.std.specs.Prelude.{◌≡◌, true, length};
+    ghost use Rattle.fed_journal.specs.Journal.{events_of, edus_of};
+    ghost use Rattle.fed_hub_state.specs.SendingJournal.{SendingState, sending_code, AreClosed};
+    ghost use Rattle.fed_hub_state.specs.Spreading.{AreSent};
+
+    ghost Value = { SendingState };
+
+    ghost coded = { sending_code };
+
+    ghost view = { λ j. record { entries = j.journal.entries; is_shut = j.is_shut } };
+
+    ghost invariant = { λ j. AreSent N.wires j.journal.entries j.ends.items
+        × (j.events.total ≡ length (events_of j.journal.entries))
+        × (j.edus.total ≡ length (edus_of j.journal.entries))
+        × (j.is_shut ≡ true → AreClosed (length N.wires) j.journal.entries) };
+}
+
+impl<N: Naming> SendingJournal<N> {
+    ghost use Rattle.fed_hub_state.specs.Entering.{Enters};
+    ghost use Rattle.fed_hub_state.specs.Spreading.{wires_of, AreUnused};
+
+    /// A journal with no entry, with these ends of its wires, one for each listed server, and the token of a client that was told of nothing
+    /// and has all parts of the ledgers.
+    ///
+    /// # Errors
+    ///
+    /// `NoMemory`.
+    pub fn new(
+        alloc: Global,
+        ends: Vec<SendEnd<Parcel, InPlace>>,
+        events: Blank,
+        edus: Blank,
+    ) -> Result<(SendingJournal<N>, ClientToken<N>), NoMemory>
+        requires wires { wires_of ends.items ≡ N.wires }
+        requires unused { AreUnused ends.items }
+        requires events { (events.name ≡ N.events) × (events.parts ≡ N.parts) }
+        requires edus { (edus.name ≡ N.edus) × (edus.parts ≡ N.parts) }
+        ensures journal { IfOk result (λ r. r.0 ≡ record { entries = []; is_shut = false }) }
+        ensures client { IfOk result (λ r. r.1 ≡ record { parts = N.parts; events = 0; edus = 0 }) }
+    {
+        let journal = Journal::new(alloc)?;
+        let (events, told_events) = events.open::<EventLedger<N>>();
+        let (edus, told_edus) = edus.open::<EduLedger<N>>();
+        let client = ClientToken::new(told_events, told_edus);
+        Ok((
+            SendingJournal {
+                journal,
+                ends,
+                events,
+                edus,
+                is_shut: false,
+            },
+            client,
+        ))
+    }
+
+    /// The entries, in order.
+    pub fn entries(&self) -> &[Entry]
+        ensures { result.now ≡ self.now.entries }
+    {
+        self.journal.entries()
+    }
+
+    /// Compares the books with what all clients together were told: the journal has as many events, and as many EDUs.
+    pub fn all_told(&mut self, all: &mut ClientToken<N>)
+        requires { all.old.parts ≡ N.parts }
+        ensures same { (self.new ≡ self.old) × (all.new ≡ all.old) }
+        ensures events { length (events_of self.old.entries) ≡ all.old.events }
+        ensures edus { length (edus_of self.old.entries) ≡ all.old.edus }
+    {
+        all.audit(&mut self.events, &mut self.edus);
+    }
+
+    /// Enters what is offered, with its destinations, and sends its loads, one for each of them, over the wires to those whose outboxes are
+    /// open. The client is told its number, among the events or among the EDUs. Behind the room that it makes it takes no memory.
+    ///
+    /// # Errors
+    ///
+    /// In this order; all is then as it was.
+    ///
+    /// - `ShutDown`, exactly where the journal is shut down
+    /// - `Limit`, exactly where it has no place for the entry and for closing each outbox that the entry reaches
+    /// - `Memory`, where memory runs out
+    pub fn enter<R: Wait>(
+        &mut self,
+        rt: &R,
+        client: &mut ClientToken<N>,
+        offered: Offered,
+        dests: ServerSet,
+        loads: Vec<Unplaced>,
+    ) -> Result<u64, EnterFault>
+        requires part { 0 < client.old.parts }
+        requires within { All (λ d. d < length N.wires) dests }
+        requires dests { dests_of loads.items ≡ dests }
+        requires same { AreAll (load_of offered) loads.items }
+        ensures { Enters offered dests self.old client.old result self.new client.new }
+    {
+        if self.is_shut {
+            return Err(EnterFault::ShutDown);
+        }
+        let loads = those_open(&self.journal, loads);
+        make_room(&mut self.journal, loads.len())?;
+        pass_all_on::<N, R>(rt, &mut self.journal, &mut self.ends, &offered, loads);
+        client.note(&mut self.events, &mut self.edus, &offered);
+        Ok(offered.append_to(&mut self.journal, dests))
+    }
+}
+
+impl<N: Naming> SendingJournal<N> {
+    ghost use Rattle.fed_hub_state.specs.Closing.{Closes};
+
+    /// Closes the outbox for a destination, and says whether it was open: the end goes over its wire, or comes back and the outbox is lost.
+    /// Where it was closed, nothing is done and no memory is taken.
+    ///
+    /// # Errors
+    ///
+    /// In this order; all is then as it was.
+    ///
+    /// - `Limit`, exactly where the outbox is open and the journal has no place for the closing
+    /// - `Memory`, where memory runs out
+    pub fn close<R: Wait>(&mut self, rt: &R, dest: ServerIndex) -> Result<bool, JournalFault>
+        requires { dest < length N.wires }
+        ensures { Closes dest self.old result self.new }
+    {
+        let Some(place) = self.journal.place(dest) else {
+            return Ok(false);
+        };
+        make_room(&mut self.journal, 0)?;
+        let end = &mut self.ends[dest.place()];
+        close_open(rt, &mut self.journal, end, place);
+        Ok(true)
+    }
+}
+
+// Closes the outbox of an end's destination, whose next parcel has this place: the end is sent over the wire.
+fn close_open<R: Wait>(
+    rt: &R,
+    journal: &mut Journal,
+    end: &mut SendEnd<Parcel, InPlace>,
+    place: Place,
+)
+    requires reserved { 0 < journal.old.reserved }
+    requires place { next_place journal.old.entries place.dest ≡ Some place }
+    requires sent { length end.old.sent ≡ placed journal.old.entries place.dest }
+    ensures { ClosesOpen place journal.old end.old journal.new end.new }
+{
+    let dest = place.dest();
+    let load = Load::End;
+    if goes(rt, end, Parcel { place, load }) {
+        journal.close(dest, Cause::Asked);
+    } else {
+        journal.close(dest, Cause::Lost);
+    }
+}
+
+// The loads for those destinations whose outboxes are open.
+fn those_open(journal: &Journal, loads: Vec<Unplaced>) -> Vec<Unplaced>
+    ensures { result.items ≡ filter (λ u. not (is_closed journal.now.entries u.dest)) loads.items }
+{
+    let mut loads = loads;
+    loads.retain(|unplaced| journal.place(unplaced.dest).is_some());
+    loads
+}
+
+// Makes room for an entry, and for so many closings before it.
+fn make_room(journal: &mut Journal, closings: usize) -> Result<(), JournalFault>
+    ensures room { OnOk result (closings < journal.new.reserved) }
+    ensures fits { OnOk result (has_place journal.old.entries closings ≡ true) }
+    ensures entries { journal.new.entries ≡ journal.old.entries }
+    ensures refused { IfErr result (HasNoRoom journal.old.entries closings) }
+{
+    journal.reserve((closings as u64).saturating_add(1))
+}
