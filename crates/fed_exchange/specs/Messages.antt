@@ -45,9 +45,13 @@ BeginsWith kind bytes m = (used : ℕ) × IsText kind m (take used bytes)
 abbrev pub IsRequestIn : List ℕ → RequestValue → Type 0
 IsRequestIn bytes request = BeginsWith Requests bytes (message.Request request)
 
--- the bytes of a reply begin with the text of one that has this status
+-- bytes begin with the text of a reply that has this status
+abbrev pub HasStatus : List ℕ → ℕ → Type 0
+HasStatus bytes status = (read : Answer) × (BeginsWith Replies bytes (message.Reply read) × (read.status ≡ status))
+
+-- those of a reply do
 abbrev pub IsStatusIn : Answer → ℕ → Type 0
-IsStatusIn reply status = (read : Answer) × (BeginsWith Replies (reply_bytes reply) (message.Reply read) × (read.status ≡ status))
+IsStatusIn reply status = HasStatus (reply_bytes reply) status
 
 -- they do not begin with the text of any request, or of any reply
 abbrev pub HasNoRequest : List ℕ → Type 0
@@ -56,7 +60,11 @@ HasNoRequest bytes = (request : RequestValue) → ¬ (IsRequestIn bytes request)
 abbrev pub HasNoReply : List ℕ → Type 0
 HasNoReply bytes = (reply : Answer) → ¬ (BeginsWith Replies bytes (message.Reply reply))
 
--- the status of a reply, where its bytes begin with the text of one
+-- the status of the reply that bytes begin with, where they begin with the text of one
+abbrev pub IsStatusAt : List ℕ → Option ℕ → Type 0
+IsStatusAt bytes (Some status) = HasStatus bytes status
+IsStatusAt bytes None = HasNoReply bytes
+
+-- the status that is read of a reply
 abbrev pub IsStatusOf : Answer → Option ℕ → Type 0
-IsStatusOf reply (Some status) = IsStatusIn reply status
-IsStatusOf reply None = HasNoReply (reply_bytes reply)
+IsStatusOf reply found = IsStatusAt (reply_bytes reply) found

@@ -4,7 +4,7 @@
 //! What the bytes are stands in definitions, which the contracts of senders and of receivers can cite.
 //!
 //! - `requests`: `request_bytes`, from a transaction to the bytes of its request, and `read_request`, from bytes to their request
-//! - `replies`: `read_status`, the status that is read from the bytes of a reply
+//! - `replies`: `status_in`, the status of the reply that bytes begin with, and `read_status`, that which is read of a reply
 //! - `front`: the message that bytes begin with
 #![tactic(auto)]
 
@@ -12,5 +12,5 @@ mod front;
 mod replies;
 mod requests;
 
-pub use replies::read_status;
+pub use replies::{read_status, status_in};
 pub use requests::{read_request, request_bytes};
