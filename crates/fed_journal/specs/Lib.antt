@@ -2,6 +2,7 @@ pub mod Place
 pub mod Entry
 pub mod Journal
 pub mod Loads
+pub mod Parcel
 pub mod Standing
 pub mod Left
 pub mod Lane
