@@ -39,6 +39,15 @@ module _ (checks : Checks) (rooms : List (List ℕ)) where
   abbrev pub judged_of : DeliveryState → JudgedState
   judged_of delivery = record { origin = delivery.origin; txn = delivery.txn; comes_to = comes_to (transaction_of delivery.body) }
 
+-- the reply to a transaction that was not taken before, and the events that it then brings for the rooms
+abbrev pub first_reply : Result Taking Refusal → Answer
+first_reply (Err refusal) = refused refusal
+first_reply (Ok taking) = accepted taking.reply
+
+abbrev pub first_fresh : Result Taking Refusal → List CheckedEvent
+first_fresh (Err refusal) = []
+first_fresh (Ok taking) = taking.fresh
+
 -- a transaction that is not taken before is taken, or its fault is answered
 abbrev pub step_by : LogState → List ℕ → Result Taking Refusal → Step
 step_by log txn (Err refusal) = answered log (refused refusal)
