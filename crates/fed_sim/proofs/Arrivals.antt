@@ -61,8 +61,3 @@ module _ (known : List (List ℕ)) where
       ap (queues_from 0 known later) (map-set (λ (h : HostedState). h.queue) rooms k new ∙ ap (set (arrivals_of rooms) k) gives)
       ∙ one_arrives 0 event later (arrivals_of rooms) k room.queue (is ∙ ap Some at)
       (slice_get-map (λ (h : HostedState). h.queue) rooms k ∙ ap (option_map (λ (h : HostedState). h.queue)) here)
-
-  -- an event has no room here
-  pub arrives_nowhere : (event : CheckedEvent) (later : List CheckedEvent) (queues : List (List CheckedEvent)) → place_of known (room_id_of event.event) ≡ None
-      → queues_from 0 known later queues ≡ queues_from 0 known (event ∷ later) queues
-  arrives_nowhere event later queues none = sym (not_here 0 event later queues (λ k below. ap (holds (λ place. place == 0 + k)) none))

@@ -1,13 +1,15 @@
 -- What was taken is a prefix of what was addressed.
 use Rattle.std.proofs.Common.{◌≡◌, ℕ, ◌<◌, List, [], ◌∷◌, ◌++◌, length, map, Option, Some, None, refl, sym, ap, ◌∙◌, arith, append_assoc, length-append}
-use Rattle.std.proofs.lemmas.Bool.{lt-ltb}
+use Rattle.std.specs.Prelude.{slice_get}
+use Rattle.std.proofs.lemmas.Bool.{lt-ltb, ltb-true}
 use Rattle.std.proofs.lemmas.List.{append-nil, map-append, length-map}
 use Rattle.std.proofs.lemmas.Option.{slice_get_within}
 use Rattle.serde_json.specs.Data.{Data}
 use Rattle.fed_json.specs.CanonicalText.{canonical_text}
 use Rattle.fed_event.specs.Checked.{CheckedEvent}
-use Rattle.fed_journal.specs.Journal.{addressed, addressed_edus}
+use Rattle.fed_journal.specs.Journal.{parcels, addressed, addressed_edus}
 use Rattle.fed_outbox.specs.Collecting.{Way}
+use Rattle.fed_outbox.specs.Following.{Follows}
 use Rattle.fed_outbox.specs.Outbox.{unanswered_pdus, unanswered_edus}
 use Rattle.fed_outbox.specs.Runs.{events_of, edus_of}
 use Rattle.fed_outbox.specs.Transaction.{TransactionValue}
@@ -15,12 +17,13 @@ use Rattle.fed_txn.specs.Writing.{event_of}
 use Rattle.fed_inbox.specs.Log.{LogState}
 use Rattle.fed_inbox.specs.Inbox.{pdus_by, edus_by, taken_of, taken_edus_of}
 use Rattle.fed_sim.specs.Server.{ServerState}
+use Rattle.fed_sim.specs.Ways.{way_to}
 use Rattle.fed_sim.specs.Headline.{event_texts, IsDelivered, AllDelivered}
 use Rattle.fed_sim.specs.World.{PacketState, WorldState}
 use Rattle.fed_sim.proofs.Servers.{listed}
 use Rattle.fed_sim.proofs.Landing.{texts, by_reply, kept_for, landed, landed_edus}
 use Rattle.fed_sim.proofs.WayMoves.{Laws}
-use Rattle.fed_sim.proofs.Between.{IsBetween, IsSound, there_way}
+use Rattle.fed_sim.proofs.Between.{IsBetween, IsSound, way_there, there_way}
 
 pub same_texts : (events : List CheckedEvent) → texts events ≡ event_texts events
 same_texts [] = refl
@@ -82,3 +85,11 @@ all_delivered laws w h o d origin dest of to apart =
     let way = listed origin.ways d within in
     let leads = there_way origin d way.0 (record { apart = λ e. apart (sym (e ∙ is.own)); within = lt-ltb d (length origin.ways) within; is = way.1 }) in
     (is.name_is, (way.0, leads, delivered_between laws o d w.epoch origin dest way.0 w.packets (h.pairs o d origin dest way.0 of to leads)))
+
+-- what was accepted and what waits on a way is what the journal places
+pub way_follows : (w : WorldState) → IsSound w → (k d : ℕ) (s : ServerState) (way : Way) → slice_get w.servers k ≡ Some s → way_to s d ≡ Some way → Follows d (parcels s.journal d) way
+way_follows w h k d s way at there =
+    let below = ltb-true d (length s.ways) (way_there s d way there).within in
+    let is = h.servers k s at in
+    let other = listed w.servers d (omega (arith, below, is.ways)) in
+    (h.pairs k d s other.0 way at other.1 there).held.follows

@@ -431,3 +431,8 @@ unfolding AllWell
 all_kept setup steps replies w is place k s event dests at there =
     let some = (run_well setup is.begin is.begins steps replies w is.ran place s at).events k event dests there in
     record { place = some.place; room = some.room; room_is = some.room_is; stored = some.inside.stored; destinations = some.inside.destinations }
+
+pub all_rooms : (setup : Setup) (steps : List Step) (replies : List Outcome) (w : WorldState) → IsRun setup steps replies w → (place : ℕ) (s : ServerState) → slice_get w.servers place ≡ Some s
+    → (r : ℕ) (room : RoomState) → slice_get s.rooms r ≡ Some room → IsRoom room_rules room
+unfolding AllWell
+all_rooms setup steps replies w is place s at = (run_well setup is.begin is.begins steps replies w is.ran place s at).rooms

@@ -35,3 +35,4 @@ pub mod ScriptPlaces
 pub mod ScriptNames
 pub mod ScriptWrong
 pub mod ScriptLines
+pub mod ScriptsApart

@@ -19,7 +19,7 @@ use Rattle.fed_sim.specs.ServerParts.{server_of}
 use Rattle.fed_sim.specs.Ways.{way_to}
 use Rattle.fed_sim.specs.World.{PacketState, request, answer, WorldState, with_server}
 use Rattle.fed_sim.specs.WorldParts.{packet_of}
-use Rattle.fed_sim.proofs.OnWays.{second}
+use Rattle.fed_sim.proofs.Places.{second}
 use Rattle.fed_sim.proofs.Worlds.{seen_of, world_at}
 
 abbrev pub sent_of : Packet → PacketState

@@ -15,7 +15,10 @@ use Rattle.fed_room_contract.specs.State.{StateMap}
 use Rattle.fed_dest.specs.Joined.{is_joined, is_joined_place, is_destination}
 use Rattle.fed_dest.specs.ServerSet.{is_among}
 use Rattle.fed_sim.specs.Offering.{others_among}
-use Rattle.fed_sim.proofs.OnWays.{second}
+
+pub second : (a b : Bool) → (a && b) ≡ true → b ≡ true
+second true b both = both
+second false b both = absurd (true≢false (sym both))
 
 pub none_twice : (places : List ℕ) → places ≡ [] → IsDistinct ◌==◌ places
 unfolding IsDistinct

@@ -59,6 +59,7 @@ gathered_new servers names places after name place found other grown g = record 
 
 pub gathered_all : (servers names : List (List ℕ)) (places sorted : List ℕ) → Gathered servers names places → IsPermutation places sorted → IsSortedByKey (λ x. x) nat_cmp sorted → ArePlaces servers names sorted
 gathered_all servers names places sorted g moved up = record {
+  listed = g.listed;
   rising = sorted_rise places sorted g.once moved up;
   named = λ place. sym (list_any-IsPermutation (λ p. p == place) places sorted moved) ∙ g.named place;
 }

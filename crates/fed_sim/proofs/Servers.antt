@@ -1,9 +1,8 @@
 -- Servers as they change.
-use Rattle.std.proofs.Common.{arith, ◌≡◌, ℕ, zero, suc, ◌+◌, ◌<◌, ◌≤◌, Bool, true, false, List, [], ◌∷◌, ◌++◌, length, map, Option, Some, None, refl, sym, ap, ◌∙◌, if◌then◌else◌, position, bytes_eq, string_bytes, String, Global, nat_lt, cond, not, ◌⊎◌, inl, inr, Result, Ok, Err, OnErr, IfOk, subst}
+use Rattle.std.proofs.Common.{arith, ◌≡◌, ℕ, zero, suc, ◌+◌, ◌<◌, ◌≤◌, ◌↔◌, Bool, true, false, true≢false, List, [], ◌∷◌, ◌++◌, length, map, Option, Some, None, IsSome, Vec, vec_len, refl, sym, ap, ◌∙◌, if◌then◌else◌, position, bytes_eq, string_bytes, String, Global, nat_lt, cond, not, ◌⊎◌, inl, inr, Result, Ok, Err, OnErr, IfOk, subst}
 use Rattle.std.specs.List.{slice_get, position_or_len}
 use Rattle.std.proofs.lemmas.List.{length-map}
-use Rattle.std.specs.Option.{unwrap_or, option_and_then}
-use Rattle.std.proofs.lemmas.Option.{none-some, same_Some, slice_get_past}
+use Rattle.std.proofs.lemmas.Option.{none-some, same_Some}
 use Rattle.std.proofs.lemmas.Bool.{lt-leb, leb-false, cases_Bool}
 use Rattle.fed_event.specs.Checked.{CheckedEvent}
 use Rattle.fed_room_contract.specs.Room.{RoomState}
@@ -37,6 +36,17 @@ pub listed : {X : Type 0} (xs : List X) (i : ℕ) → i < length xs → (x : X) 
 listed [] i within = absurd (omega (arith, within))
 listed (x ∷ xs) zero within = (x, refl)
 listed (x ∷ xs) (suc i) within = listed xs i (omega (arith, within))
+
+-- an element was asked for by its place
+module _ {X R : Type 0} (xs : Vec X Global) (k : ℕ) (found : Option R) (there : IsSome found ↔ (k < vec_len xs)) where
+  pub there_past : found ≡ None → length xs.items ≤ k
+  there_past none = by (λ below. true≢false (sym (subst IsSome none (there.1 below))))
+    where
+      by : (k < vec_len xs → ⊥) → length xs.items ≤ k
+      by beyond = grind (arith, beyond, xs.ok.0)
+
+  pub there_below : (some : R) → found ≡ Some some → k < length xs.items
+  there_below some is = let below : k < vec_len xs = there.0 (subst IsSome (sym is) refl) in omega (arith, below, xs.ok.0)
 
 -- a place comes next exactly where the outbox is open
 pub closed_where : (entries : List Entry) (d : ℕ) → next_place entries d ≡ None → is_closed entries d ≡ true
@@ -103,8 +113,3 @@ told_none offered dests entries told is none = by (fits offered dests entries) (
     by : (b : Bool) → if◌then◌else◌ {A = Option Entered} b (Some (record { number = number_of offered (entries ++ entry_of offered dests ∷ []); dests = open_among entries dests })) None ≡ None → b ≡ false
     by true here = absurd (none-some _ (sym here))
     by false here = refl
-
--- the place of a room is none, or past the rooms
-pub nowhere : {X : Type 0} (xs : List X) (o : Option ℕ) (n p : ℕ) → p ≡ unwrap_or o n → n ≡ length xs → n ≤ p → option_and_then (slice_get xs) o ≡ None
-nowhere xs None n p is all past = refl
-nowhere xs (Some q) n p is all past = slice_get_past xs q (omega (arith, is, all, past))

@@ -3,11 +3,15 @@ use Rattle.std.proofs.Common.{◌≡◌, ℕ, zero, suc, ◌+◌, ◌<◌, ◌�
 use Rattle.std.specs.Prelude.{slice_get, string_bytes}
 use Rattle.std.specs.List.{range_with_len}
 use Rattle.std.specs.Option.{option_map_or}
+use denote.Struct.Props.{≡_prop}
+use Rattle.std.specs.Coded.{coded_ℕ, coded_list}
 use Rattle.std.proofs.Math.Logic.{∥∥₁_elim}
 use Rattle.std.proofs.Math.Nat.{ℕ_set}
 use Rattle.std.proofs.lemmas.List.{length-map, length-set}
 use Rattle.std.proofs.lemmas.List.FromFn.{length-range_with_len}
 use Rattle.std.proofs.lemmas.Option.{slice_get_within}
+use Rattle.fed_keys.specs.StandIn.{stand_in_checks}
+use Rattle.fed_inbox.specs.Rooms.{room_set}
 use Rattle.fed_journal.specs.declared.entry.Entry.{Entry}
 use Rattle.fed_room.specs.Room.{room_of}
 use Rattle.fed_outbox.specs.Collecting.{Way}
@@ -25,21 +29,14 @@ use Rattle.fed_sim.specs.Packets as packets
 use Rattle.fed_sim.specs.Packets.{IsPosted, IsTaken, IsSettled}
 use Rattle.fed_sim.specs.Running.{Begins, IsBeginning, ComesOfRun}
 use Rattle.fed_sim.specs.Server.{ServerState}
+use Rattle.fed_sim.specs.Shape.{IsShaped, HasShape}
 use Rattle.fed_sim.specs.Steps.{Moves, collected, cut, posted, taken, settled, given, risen, Reached, no_step, one_more, ReachedInPart, before_it, in_it, Does, Leaves, Makes, made, refused, Ran, begun, next}
 use Rattle.fed_sim.specs.Taking.{IsReceived, with_taken}
 use Rattle.fed_sim.specs.Way.{new_way}
 use Rattle.fed_sim.specs.Ways.{way_to, with_way, ways_beyond, IsOnWay}
 use Rattle.fed_sim.specs.World.{WorldState, with_server, at_moment, max_moment, ticked, AtServer, nowhere, somewhere, AtServerInPart}
 use Rattle.fed_sim.proofs.Between.{set_or_other}
-
-pub record IsShaped (names known k : ℕ) (s : ServerState) : Type 0 where
-  pub own : s.own ≡ k
-  pub ways : length s.ways ≡ names
-  pub rooms : length s.rooms ≡ known
-
-pub record HasShape (w : WorldState) : Type 0 where
-  pub count : length w.servers ≡ length w.names
-  pub servers : (k : ℕ) (s : ServerState) → slice_get w.servers k ≡ Some s → IsShaped (length w.names) (length w.known) k s
+use Rattle.fed_sim.proofs.Fresh.{rooms_stay_known}
 
 -- ---- one server
 
@@ -47,9 +44,10 @@ record Keeps (before after : ServerState) : Type 0 where
   pub own : after.own ≡ before.own
   pub ways : length after.ways ≡ length before.ways
   pub rooms : length after.rooms ≡ length before.rooms
+  pub inbox : after.inbox.rooms ≡ before.inbox.rooms
 
 itself : (s : ServerState) → Keeps s s
-itself s = record { own = refl; ways = refl; rooms = refl }
+itself s = record { own = refl; ways = refl; rooms = refl; inbox = refl }
 
 keeps_same : (before after : ServerState) → after ≡ before → Keeps before after
 keeps_same before after is = subst (Keeps before) (sym is) (itself before)
@@ -64,23 +62,23 @@ offered_keeps names known draft before told after (offering.known_room place is 
   where
     by : (told : Outcome) (after : ServerState) → IsOfferedAt names place draft before told after → Keeps before after
     by _ _ (in_room room now told entries here does) =
-        record { own = refl; ways = length-ways_beyond 0 before.journal entries before.ways; rooms = length-set before.rooms place now }
+        record { own = refl; ways = length-ways_beyond 0 before.journal entries before.ways; rooms = length-set before.rooms place now; inbox = refl }
 
 edu_keeps : (value : _) (dests : List ℕ) (before : ServerState) (told : Outcome) (after : ServerState) → IsEduOffered value dests before told after → Keeps before after
-edu_keeps value dests before _ _ (for_others told entries does) = record { own = refl; ways = length-ways_beyond 0 before.journal entries before.ways; rooms = refl }
+edu_keeps value dests before _ _ (for_others told entries does) = record { own = refl; ways = length-ways_beyond 0 before.journal entries before.ways; rooms = refl; inbox = refl }
 
 close_keeps : (d : ℕ) (before : ServerState) (told : Outcome) (after : ServerState) → IsClosedFor d before told after → Keeps before after
 close_keeps d before _ _ (offering.no_way none) = itself before
-close_keeps d before _ _ (offering.on_way way told entries there does) = record { own = refl; ways = length-ways_beyond 0 before.journal entries before.ways; rooms = refl }
+close_keeps d before _ _ (offering.on_way way told entries there does) = record { own = refl; ways = length-ways_beyond 0 before.journal entries before.ways; rooms = refl; inbox = refl }
 
 arrived_keeps : (place : ℕ) (before : ServerState) (told : Outcome) (after : ServerState) → IsArrived place before told after → Keeps before after
 arrived_keeps place before _ _ (no_room none) = itself before
 arrived_keeps place before _ _ (nothing none) = itself before
-arrived_keeps place before _ _ (arrived room now event later told is applied) = record { own = refl; ways = refl; rooms = length-set before.rooms place now }
+arrived_keeps place before _ _ (arrived room now event later told is applied) = record { own = refl; ways = refl; rooms = length-set before.rooms place now; inbox = refl }
 
 part_keeps : (place : ℕ) (before after : ServerState) → IsArrivedInPart place before after → Keeps before after
 part_keeps place before _ same = itself before
-part_keeps place before _ (in_part room now event later is stopped) = record { own = refl; ways = refl; rooms = length-set before.rooms place now }
+part_keeps place before _ (in_part room now event later is stopped) = record { own = refl; ways = refl; rooms = length-set before.rooms place now; inbox = refl }
 
 given_keeps : (known : List (List ℕ)) (id : List ℕ) (before : ServerState) (told : Outcome) (after : ServerState) → IsGivenTo known id before told after → Keeps before after
 given_keeps known id before _ _ (unknown_room none) = itself before
@@ -92,11 +90,15 @@ way_keeps d step before told after is = by (way_to before d) is
     by : (found : Option Way) → ◌≡◌ {A = Outcome × ServerState} (told, after) (option_map_or (λ way. ((step way).0, with_way before d (step way).1)) found (outcome.NoSuchServer, before)) → Keeps before after
     by None e = keeps_same before after (ap (λ pair. pair.1) e)
     by (Some way) e =
-        subst (Keeps before) (sym (ap (λ pair. pair.1) e)) (record { own = refl; ways = length-set before.ways d (step way).1; rooms = refl })
+        subst (Keeps before) (sym (ap (λ pair. pair.1) e)) (record { own = refl; ways = length-set before.ways d (step way).1; rooms = refl; inbox = refl })
 
 received_keeps : (known : List (List ℕ)) (request : _) (before : ServerState) (reply : _) (after : ServerState) → IsReceived known request before reply after → Keeps before after
-received_keeps known request before reply after is =
-    record { own = ap (λ (s : ServerState). s.own) is.others; ways = ap (λ (s : ServerState). length s.ways) is.others; rooms = ap (λ (s : ServerState). length s.rooms) is.others }
+received_keeps known request before reply after is = record {
+  own = ap (λ (s : ServerState). s.own) is.others;
+  ways = ap (λ (s : ServerState). length s.ways) is.others;
+  rooms = ap (λ (s : ServerState). length s.rooms) is.others;
+  inbox = rooms_stay_known stand_in_checks before.inbox request reply after.inbox is.taken.fresh is.taken.answered;
+}
 
 -- ---- the world
 
@@ -104,11 +106,11 @@ module _ (w : WorldState) (p : ℕ) (before after : ServerState) (at : slice_get
   shaped_then : HasShape (with_server w p after)
   shaped_then = record { count = length-set w.servers p after ∙ h.count; servers = λ k s e. by k s (set_or_other w.servers p after k s e) }
     where
-      now : IsShaped (length w.names) (length w.known) p after
-      now = let old = h.servers p before at in record { own = keeps.own ∙ old.own; ways = keeps.ways ∙ old.ways; rooms = keeps.rooms ∙ old.rooms }
+      now : IsShaped (length w.names) w.known p after
+      now = let old = h.servers p before at in record { own = keeps.own ∙ old.own; ways = keeps.ways ∙ old.ways; rooms = keeps.rooms ∙ old.rooms; inbox = keeps.inbox ∙ old.inbox }
 
-      by : (k : ℕ) (s : ServerState) → ((k ≡ p) × (after ≡ s)) ⊎ ((k ≢ p) × (slice_get w.servers k ≡ Some s)) → IsShaped (length w.names) (length w.known) k s
-      by k s (inl (here, is)) = subst (IsShaped (length w.names) (length w.known) k) is (subst (λ j. IsShaped (length w.names) (length w.known) j after) (sym here) now)
+      by : (k : ℕ) (s : ServerState) → ((k ≡ p) × (after ≡ s)) ⊎ ((k ≢ p) × (slice_get w.servers k ≡ Some s)) → IsShaped (length w.names) w.known k s
+      by k s (inl (here, is)) = subst (IsShaped (length w.names) w.known k) is (subst (λ j. IsShaped (length w.names) w.known j after) (sym here) now)
       by k s (inr (elsewhere, is)) = h.servers k s is
 
 at_server : (place : ℕ) (DoesIt : ServerState → Outcome → ServerState → Type 0) (w : WorldState) (told : Outcome) (new : WorldState)
@@ -205,13 +207,14 @@ ran_shaped begin _ _ _ (next steps replies old new step told before makes) h = b
 begins_shaped : (setup : Setup) (w : WorldState) → Begins setup w → HasShape w
 begins_shaped setup w b = record { count = b.count; servers = λ k s e. by k s (b.servers k s e) }
   where
-    by : (k : ℕ) (s : ServerState) → IsBeginning w.names w.known setup.rooms.items k s → IsShaped (length w.names) (length w.known) k s
+    by : (k : ℕ) (s : ServerState) → IsBeginning w.names w.known setup.rooms.items k s → IsShaped (length w.names) w.known k s
     by k s is =
-        subst (IsShaped (length w.names) (length w.known) k) (sym is.new.is)
+        subst (IsShaped (length w.names) w.known k) (sym is.new.is)
         (record {
           own = refl;
           ways = length-map (range_with_len 0 (length w.names)) new_way ∙ length-range_with_len 0 (length w.names);
           rooms = length-map is.hosted (λ (h : HostedState). room_of h.room) ∙ is.count ∙ sym (length-map setup.rooms.items (λ (r : RoomSetup). string_bytes r.id)) ∙ ap length (sym b.known);
+          inbox = refl;
         })
 
 pub has_shape : (w : WorldState) → ComesOfRun w → HasShape w
@@ -228,3 +231,6 @@ module _ (w : WorldState) (comes : ∥ ComesOfRun w ∥₁) where
 
   pub rooms_count : (k : ℕ) (s : ServerState) → slice_get w.servers k ≡ Some s → length s.rooms ≡ length w.known
   rooms_count k s at = ∥∥₁_elim comes (ℕ_set (length s.rooms) (length w.known)) (λ c. ((has_shape w c).servers k s at).rooms)
+
+  pub inbox_rooms : (k : ℕ) (s : ServerState) → slice_get w.servers k ≡ Some s → s.inbox.rooms ≡ room_set w.known
+  inbox_rooms k s at = ∥∥₁_elim comes (≡_prop (coded_list (coded_list coded_ℕ)) s.inbox.rooms (room_set w.known)) (λ c. ((has_shape w c).servers k s at).inbox)

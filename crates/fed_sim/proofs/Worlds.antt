@@ -1,5 +1,5 @@
 -- Worlds as they change.
-use Rattle.std.proofs.Common.{arith, ◌≡◌, ℕ, ◌<◌, ◌≤◌, ◌↔◌, List, length, map, set, get_or, Option, Some, None, IsSome, Result, Ok, Err, IfOk, OnErr, Vec, vec_len, Global, true≢false, refl, sym, ap, ◌∙◌, subst}
+use Rattle.std.proofs.Common.{arith, ◌≡◌, ℕ, ◌<◌, ◌↔◌, List, map, set, get_or, Option, Some, None, IsSome, Result, Ok, Err, IfOk, OnErr, Vec, vec_len, Global, refl, sym, ap, ◌∙◌, subst}
 use Rattle.std.specs.List.{slice_get}
 use Rattle.std.specs.Option.{option_map}
 use Rattle.std.proofs.lemmas.List.{length-map, map-set}
@@ -11,6 +11,7 @@ use Rattle.fed_sim.specs.Server.{ServerState}
 use Rattle.fed_sim.specs.ServerParts.{server_of}
 use Rattle.fed_sim.specs.World.{WorldState, AtServer, AtServerInPart, nowhere, somewhere}
 use Rattle.fed_sim.proofs.OfRuns.{with_servers, Comes, comes_same}
+use Rattle.fed_sim.proofs.Servers.{there_past, there_below}
 use Rattle.fed_sim.proofs.WayQueues.{same_seen}
 
 abbrev pub seen_of : Server → ServerState
@@ -22,15 +23,9 @@ world_at w servers = with_servers w (map seen_of servers)
 
 -- a server was asked for by its place
 module _ {R : Type 0} (w : WorldState) (servers : Vec Server Global) (place k : ℕ) (at : k ≡ place) (found : Option R) (there : IsSome found ↔ (k < vec_len servers)) where
-  past : found ≡ None → length servers.items ≤ k
-  past none = by (λ below. true≢false (sym (subst IsSome none (there.1 below))))
-    where
-      by : (k < vec_len servers → ⊥) → length servers.items ≤ k
-      by beyond = grind (arith, beyond, servers.ok.0)
-
   -- there is none
   pub not_there : found ≡ None → slice_get (map seen_of servers.items) place ≡ None
-  not_there none = let all = length-map servers.items seen_of in let beyond = past none in slice_get_past (map seen_of servers.items) place (omega (arith, all, beyond, at))
+  not_there none = let all = length-map servers.items seen_of in let beyond = there_past servers k found there none in slice_get_past (map seen_of servers.items) place (omega (arith, all, beyond, at))
 
   pub at_none : {Does : ServerState → Outcome → ServerState → Type 0} → found ≡ None → AtServer place Does (world_at w servers.items) NoSuchServer (world_at w servers.items)
   at_none none = nowhere (not_there none)
@@ -39,7 +34,7 @@ module _ {R : Type 0} (w : WorldState) (servers : Vec Server Global) (place k : 
     -- the server that stands there
     pub server_is : slice_get (map seen_of servers.items) place ≡ Some (server_of before)
     server_is =
-        let within : k < length servers.items = let below : k < vec_len servers = there.0 (subst IsSome (sym is) refl) in omega (arith, below, servers.ok.0) in
+        let within = there_below servers k found there some is in
         ap (slice_get (map seen_of servers.items)) (sym at) ∙ slice_get-map seen_of servers.items k ∙ ap (option_map seen_of) (slice_get-get_or servers.items k before within ∙ ap Some (sym value))
 
     pub afterwards : set (map seen_of servers.items) place (server_of after) ≡ map seen_of (set servers.items k after)

@@ -11,6 +11,7 @@ pub mod Taking
 pub mod Ways
 pub mod Arriving
 pub mod World
+pub mod Shape
 pub mod WorldFields
 pub mod WorldParts
 pub mod Packets

@@ -1,5 +1,5 @@
 -- The steps of a script: the table of their commands, and which step the words of a line say.
-use Rattle.std.specs.Prelude.{◌≡◌, ◌&&◌, not, ℕ, ◌==◌, Bool, false, List, [], ◌∷◌, nat_le, bytes_eq, codes, Option, Some, None, option_map, is_some, is_none, Result, Err, String, string_bytes, find, if◌then◌else◌}
+use Rattle.std.specs.Prelude.{◌≡◌, ◌&&◌, not, ℕ, ◌==◌, Bool, true, false, List, [], ◌∷◌, nat_le, bytes_eq, codes, Option, Some, None, option_map, is_some, is_none, Result, Err, String, string_bytes, find, if◌then◌else◌}
 use Rattle.std.specs.List.{list_any, list_all, filter_map, slice_split}
 use Rattle.std.specs.Str.{is_utf8}
 use Rattle.std.specs.Option.{option_and_then, ok_or}
@@ -131,8 +131,9 @@ step_fault servers text =
 abbrev pub edu_of : List ℕ → Data → Data
 edu_of kind content = object (member (codes "content") content (member (codes "edu_type") (string kind) no_members))
 
--- the places of the servers of these names, each once, in order
+-- the places of the servers of these names, each once, in order: all of them are listed
 pub record ArePlaces (servers names : List (List ℕ)) (places : List ℕ) : Type 0 where
+  pub listed : are_listed servers names ≡ true
   pub rising : IsStrictlyIncreasing places
   pub named : (place : ℕ) → is_among places place ≡ is_among (filter_map (place_of servers) names) place
 

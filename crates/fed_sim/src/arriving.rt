@@ -34,10 +34,10 @@ impl Server {
         ensures arrived { IfOk result (λ outcome. IsArrived place (server_of self.old) outcome (server_of self.new)) }
         ensures err { OnErr result (IsArrivedInPart place (server_of self.old) (server_of self.new)) }
     {
-        if self.rooms.len() <= place {
+        let Some(hosted) = self.rooms.get_mut(place) else {
             return Ok(Outcome::NothingApplied);
-        }
-        match self.rooms[place].apply(alloc)? {
+        };
+        match hosted.apply(alloc)? {
             Some(Applied { receipt, more }) => Ok(Outcome::Applied { receipt, more }),
             None => Ok(Outcome::NothingApplied),
         }

@@ -1,10 +1,13 @@
 // What holds of every run.
 ghost use Rattle.std.specs.Prelude.{ℕ, List};
 ghost use Rattle.fed_sim.specs.declared.outcome.Outcome.{Outcome};
+ghost use Rattle.fed_sim.specs.declared.script.faults.ScriptError.{ScriptError};
 ghost use Rattle.fed_sim.specs.declared.setup.Setup.{Setup};
 ghost use Rattle.fed_sim.specs.declared.step.Step.{Step};
 ghost use Rattle.fed_sim.specs.Headline.{Headline};
-ghost use Rattle.fed_sim.specs.Running.{IsRun};
+ghost use Rattle.fed_sim.specs.Running.{ComesOfRun, IsRun};
+ghost use Rattle.fed_sim.specs.Script.{IsScript, IsNoScript};
+ghost use Rattle.fed_sim.specs.Shape.{HoldsTogether};
 ghost use Rattle.fed_sim.specs.World.{WorldState};
 
 use fed_outbox::nothing_is_lost_on_the_way;
@@ -18,3 +21,17 @@ pub fn runs_deliver()
 {
     nothing_is_lost_on_the_way();
 }
+
+/// In each world that comes of a run there are as many servers as names. Each stands at its own place, and has a way for each name, a room for
+/// each id, and an inbox that knows just these rooms. What the outbox for a destination has accepted, and what waits before it, is what the
+/// journal places for it; and what is stored in a room is a graph with the verdicts of the rules.
+pub fn worlds_hold_together()
+    ensures { (w : WorldState) → ComesOfRun w → HoldsTogether w }
+{
+    nothing_is_lost_on_the_way();
+}
+
+/// No text is both a script and none: where `read_script` gives a setup and steps, it could not have told a line, and the other way round.
+pub fn scripts_are_told_apart()
+    ensures { (text : List ℕ) (setup : Setup) (steps : List Step) (line : ℕ) (fault : ScriptError) → IsScript text setup steps → IsNoScript text line fault → ⊥ }
+{}

@@ -1,14 +1,15 @@
 // What a server takes.
-ghost use Rattle.std.specs.Prelude.{◌≡◌, ◌<◌, OnOk, OnErr, IfOk, IfSome, length, map, position, bytes_eq, string_bytes};
+ghost use Rattle.std.specs.Prelude.{◌≡◌, ◌<◌, All, OnOk, OnErr, IfOk, IfSome, length, map, position, bytes_eq, string_bytes};
 ghost use Rattle.fed_sim.specs.Hosted.{rooms_of, arrivals_of};
 ghost use Rattle.fed_inbox.specs.Queues.{queues_after};
-ghost use Rattle.fed_sim.specs.Taking.{HasRoom, IsReceived};
+ghost use Rattle.fed_inbox.specs.Rooms.{room_set};
+ghost use Rattle.fed_sim.specs.Taking.{HasRoom, IsOfKnown, IsReceived};
 
 use crate::hosted::Hosted;
 use crate::server::Server;
 use fed_event::Checked;
 use fed_http::{Reply, Request};
-use fed_inbox::what_the_queues_get;
+use fed_inbox::{what_a_new_inbox_knows, what_the_queues_get};
 use fed_json::NoMemory;
 use fed_outbox::MAX_PDUS;
 use std::alloc::Global;
@@ -24,13 +25,15 @@ impl Server {
         known: &[String],
         request: &Request,
     ) -> Result<Reply, NoMemory>
-        requires { length self.old.rooms.items ≡ length known.now }
+        requires known { length self.old.rooms.items ≡ length known.now }
+        requires inbox { self.old.inbox.state.rooms ≡ room_set (map string_bytes known.now) }
         ensures received { IfOk result (λ reply. IsReceived (map string_bytes known.now) request.now (server_of self.old) reply (server_of self.new)) }
         ensures err { OnErr result (server_of self.new ≡ server_of self.old) }
     {
         make_room(&mut self.rooms)?;
         let reply = self.inbox.answer(alloc, request, &self.keys);
         let events = self.inbox.fresh();
+        what_a_new_inbox_knows();
         what_the_queues_get();
         push_all(&mut self.rooms, known, events);
         Ok(reply)
@@ -62,15 +65,13 @@ fn make_room(rooms: &mut [Hosted]) -> Result<(), NoMemory>
 fn push_all(rooms: &mut [Hosted], known: &[String], events: Vec<Checked>)
     requires room { HasRoom (length events.items) rooms.old }
     requires known { length rooms.old ≡ length known.now }
+    requires events { All (IsOfKnown (map string_bytes known.now)) events.items }
     ensures rooms { rooms_of rooms.new ≡ rooms_of rooms.old }
     ensures arrivals { arrivals_of rooms.new ≡ queues_after (map string_bytes known.now) events.items (arrivals_of rooms.old) }
     ensures count { length rooms.new ≡ length rooms.old }
 {
     for event in events {
-        match place_of(known, event.event().room_id()) {
-            Some(place) => rooms[place].push(event),
-            // It is of no room here.
-            None => drop(event),
-        }
+        let place = place_of(known, event.event().room_id()).unwrap();
+        rooms[place].push(event);
     }
 }

@@ -1,6 +1,6 @@
 // What a server does on the way to one destination.
 ghost use Rattle.std.specs.Prelude.{◌≡◌, ◌≤◌, OnErr, IfOk};
-ghost use Rattle.fed_sim.specs.Ways.{has_way, on_way, collecting, cutting, failing, settling};
+ghost use Rattle.fed_sim.specs.Ways.{on_way, collecting, cutting, failing, settling};
 
 use crate::outcome::Outcome;
 use crate::server::Server;
@@ -11,22 +11,18 @@ use fed_json::NoMemory;
 impl Server {
     ghost use Rattle.fed_sim.specs.ServerParts.{server_of};
 
-    /// Whether there is a way to a destination: to a listed server other than this one.
-    pub(crate) fn has_way(&self, dest: ServerIndex) -> bool
-        ensures { result ≡ has_way (server_of self.now) dest }
-    {
-        dest != self.own && dest.place() < self.ways.len()
-    }
-
     /// The first parcel for a destination goes into its outbox. Nothing changes where memory runs out.
     pub(crate) fn collect(&mut self, dest: ServerIndex) -> Result<Outcome, NoMemory>
         ensures collected { IfOk result (λ told. (told, server_of self.new) ≡ on_way dest collecting (server_of self.old)) }
         ensures err { OnErr result (server_of self.new ≡ server_of self.old) }
     {
-        if !self.has_way(dest) {
+        if dest == self.own {
             return Ok(Outcome::NoSuchServer);
         }
-        match self.ways[dest.place()].collect()? {
+        let Some(way) = self.ways.get_mut(dest.place()) else {
+            return Ok(Outcome::NoSuchServer);
+        };
+        match way.collect()? {
             Some(kind) => Ok(Outcome::Collected(kind)),
             None => Ok(Outcome::NothingCollected),
         }
@@ -37,10 +33,13 @@ impl Server {
         requires { now ≤ 9007199254740991 }
         ensures { (result, server_of self.new) ≡ on_way dest (cutting now) (server_of self.old) }
     {
-        if !self.has_way(dest) {
+        if dest == self.own {
             return Outcome::NoSuchServer;
         }
-        match self.ways[dest.place()].cut(now) {
+        let Some(way) = self.ways.get_mut(dest.place()) else {
+            return Outcome::NoSuchServer;
+        };
+        match way.cut(now) {
             Some(Cut { number, pdus, edus }) => Outcome::Cut { number, pdus, edus },
             None => Outcome::NoCut,
         }
@@ -51,10 +50,13 @@ impl Server {
         requires { now ≤ 9007199254740991 }
         ensures { (result, server_of self.new) ≡ on_way dest (failing now) (server_of self.old) }
     {
-        if !self.has_way(dest) {
+        if dest == self.own {
             return Outcome::NoSuchServer;
         }
-        match self.ways[dest.place()].failed(now) {
+        let Some(way) = self.ways.get_mut(dest.place()) else {
+            return Outcome::NoSuchServer;
+        };
+        match way.failed(now) {
             Some(at_ms) => Outcome::Due { at_ms },
             None => Outcome::NotFailed,
         }
@@ -71,9 +73,12 @@ impl Server {
         requires { now ≤ 9007199254740991 }
         ensures { (result, server_of self.new) ≡ on_way dest (settling number status now) (server_of self.old) }
     {
-        if !self.has_way(dest) {
+        if dest == self.own {
             return Outcome::NoSuchServer;
         }
-        Outcome::Settled(self.ways[dest.place()].settle(number, status, now))
+        let Some(way) = self.ways.get_mut(dest.place()) else {
+            return Outcome::NoSuchServer;
+        };
+        Outcome::Settled(way.settle(number, status, now))
     }
 }

@@ -1,5 +1,5 @@
 // Servers that the words of a line name.
-ghost use Rattle.std.specs.Prelude.{◌≡◌, ◌≢◌, ◌∷◌, [], true, false, Some, None, IfOk, IfErr, OnOk, bytes_eq};
+ghost use Rattle.std.specs.Prelude.{◌≡◌, ◌≢◌, ◌∷◌, [], false, Some, None, IfOk, IfErr, bytes_eq};
 ghost use Rattle.std.specs.List.{list_any};
 ghost use Rattle.fed_dest.specs.List.{place_of};
 ghost use Rattle.fed_sim.specs.ScriptSteps.{ArePlaces, are_listed, two_servers, names_in};
@@ -53,7 +53,6 @@ pub(crate) fn place_of(servers: &List, name: &str) -> Result<ServerIndex, Script
 /// The servers of these names, which have commas between them.
 pub(crate) fn set_of(alloc: Global, servers: &List, names: &str) -> Result<ServerSet, LineFault>
     ensures ok { IfOk result (λ set. ArePlaces servers.now (names_in names.now) set) }
-    ensures listed { OnOk result (are_listed servers.now (names_in names.now) ≡ true) }
     ensures unknown { IfErr result (λ fault. fault ≢ Memory → (fault ≡ Wrong UnknownServer) × (are_listed servers.now (names_in names.now) ≡ false)) }
 {
     let mut places = Vec::new(alloc);

@@ -42,8 +42,3 @@ returns-clause-ok c =
     let each = rw all.0 at c.loop-name.invariant in
     let set = gathered_all c.args.servers.now (names_in c.args.names.now) c.loop-name.places.items c.sort_unstable.new.self.items each c.sort_unstable.ensures.permutation c.sort_unstable.ensures.sorted in
     rw c.of.ensures set
-
-pub returns-clause-listed : goal.returns-clause-listed
-returns-clause-listed c =
-    let all = YieldsList-end (YieldsList-at c.into_iter-name-iterator.ensures.into_iter_gives (YieldsList-from_str_split 44 c.args.names.now (lit< tt) c.split-name-items.ensures.text c.split-name-items.ensures.has_more c.split-name-items.ensures.pattern)) c.loop-name.yielded _ c.loop-name.yielded_by _ _ c.in-None.is c.next.ensures.steps in
-    rw all.0 at c.loop-name.invariant.listed

@@ -1,4 +1,5 @@
-use Rattle.std.proofs.Common.{arith, ◌≡◌, ◌∙◌, length, map, string_bytes, sym, ap, subst}
+use Rattle.std.proofs.Common.{arith, ◌≡◌, ◌∙◌, [], All, length, map, string_bytes, sym, ap, subst}
+use Rattle.std.specs.FinMap as finite
 use Rattle.std.specs.List.{slice_get}
 use Rattle.std.proofs.lemmas.List.{with_items_is}
 use Rattle.std.specs.Vec.{with_items}
@@ -8,7 +9,8 @@ use Rattle.fed_inbox.specs.WholeRequest.{IsAnsweredWhole}
 use Rattle.fed_sim.specs.Hosted.{rooms_of, arrivals_of}
 use Rattle.fed_inbox.specs.Queues.{queues_from}
 use Rattle.fed_sim.specs.ServerParts.{server_of}
-use Rattle.fed_sim.proofs.Fresh.{few_fresh}
+use Rattle.fed_sim.specs.Taking.{IsOfKnown}
+use Rattle.fed_sim.proofs.Fresh.{few_fresh, of_known}
 use Rattle.fed_sim.proofs.server.Server.receive.Goals as goal
 
 pub push_all-requires-clause-room : goal.push_all-requires-clause-room
@@ -18,7 +20,7 @@ push_all-requires-clause-room c = λ k room here.
     let kept = c.make_room.ensures.count in
     let rooms : c.deref_mut-2.result.now ≡ c.make_room.new.rooms = c.deref_mut-2.ensures.value ∙ with_items_is c.args.self.now.rooms c.make_room.new.rooms (omega arith) in
     let free = c.in_ok-make_room.ensures.ok k room (sym (ap (λ xs. slice_get xs k) rooms) ∙ here) in
-    let few = few_fresh c.what_the_queues_get.ensures.few _ _ _ _ _ _ c.answer-reply.ensures.answered in
+    let few = few_fresh _ _ _ _ _ _ c.what_the_queues_get.ensures.few c.answer-reply.ensures.answered in
     let handed = ap length c.fresh-events.ensures.handed in
     omega arith
 
@@ -28,7 +30,13 @@ push_all-requires-clause-known c =
     let size = c.args.self.now.rooms.ok.0 in
     let kept = c.make_room.ensures.count in
     let rooms : c.deref_mut-2.result.now ≡ c.make_room.new.rooms = c.deref_mut-2.ensures.value ∙ with_items_is c.args.self.now.rooms c.make_room.new.rooms (omega arith) in
-    ap length rooms ∙ kept ∙ held ∙ c.requires
+    ap length rooms ∙ kept ∙ held ∙ c.requires.known
+
+pub push_all-requires-clause-events : goal.push_all-requires-clause-events
+push_all-requires-clause-events c =
+    let known = map string_bytes c.args.known.now in
+    subst (All (IsOfKnown known)) (sym c.fresh-events.ensures.handed)
+    (of_known _ _ _ _ _ _ known c.requires.inbox (c.what_a_new_inbox_knows.ensures.rooms finite.empty [] [] known) c.answer-reply.ensures.answered)
 
 pub returns-clause-received : goal.returns-clause-received
 returns-clause-received c =

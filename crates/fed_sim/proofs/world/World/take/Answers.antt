@@ -16,7 +16,8 @@ use Rattle.fed_sim.specs.World.{answer, with_server}
 use Rattle.fed_sim.proofs.OfRuns.{comes_moved, comes_same}
 use Rattle.fed_sim.proofs.Packets.{sent_of, packets_at, packet_is, no_packet, no_request_in, answer_no_request, answered_then, none_read, one_read, if_ok, same_told}
 use Rattle.fed_sim.proofs.Servers.{on_error}
-use Rattle.fed_sim.proofs.Shapes.{rooms_count}
+use Rattle.fed_inbox.specs.Rooms.{room_set}
+use Rattle.fed_sim.proofs.Shapes.{rooms_count, inbox_rooms}
 use Rattle.fed_sim.proofs.Worlds.{world_at, not_there, server_is, afterwards, same_servers}
 use Rattle.fed_sim.proofs.world.World.take.Goals as goal
 
@@ -43,12 +44,18 @@ returns-in_default-get_mut-clause-taken c =
     same_told (IsTaken c.args.packet w) _ _ _ _ refl (ap (packets_at w) (sym kept))
     (no_receiver c.in-Request.server c.in-Request.dest c.in-Request.number c.in-Request.bytes.items here (not_there w c.args.self.now.servers c.in-Request.dest c.place.result c.place.ensures.place c.get_mut.result c.get_mut.ensures.variant c.in_default-get_mut.is))
 
-pub receive-requires : goal.receive-requires
-receive-requires c =
+pub receive-requires-clause-known : goal.receive-requires-clause-known
+receive-requires-clause-known c =
     let w = world_of c.args.self.now in
     sym (length-map c.in-Some-get_mut.receiver.now.rooms.items (λ (h : HostedState). room_of h.room))
     ∙ rooms_count w c.args.self.now.comes c.in-Request.dest (server_of c.in-Some-get_mut.receiver.now) (server_is w c.args.self.now.servers c.in-Request.dest c.place.result c.place.ensures.place c.get_mut.result c.get_mut.ensures.variant c.in-Some-get_mut.receiver.now c.in-Some-get_mut.receiver.now c.in-Some-get_mut.receiver c.in-Some-get_mut.is c.in-Some-get_mut.ensures.value)
     ∙ length-map c.args.self.now.known.items string_bytes ∙ ap length (sym c.deref-2.ensures.value)
+
+pub receive-requires-clause-inbox : goal.receive-requires-clause-inbox
+receive-requires-clause-inbox c =
+    let w = world_of c.args.self.now in
+    inbox_rooms w c.args.self.now.comes c.in-Request.dest (server_of c.in-Some-get_mut.receiver.now) (server_is w c.args.self.now.servers c.in-Request.dest c.place.result c.place.ensures.place c.get_mut.result c.get_mut.ensures.variant c.in-Some-get_mut.receiver.now c.in-Some-get_mut.receiver.now c.in-Some-get_mut.receiver c.in-Some-get_mut.is c.in-Some-get_mut.ensures.value)
+    ∙ ap (λ ids. room_set (map string_bytes ids)) (sym c.deref-2.ensures.value)
 
 pub returns-in_err-reply-clause-err : goal.returns-in_err-reply-clause-err
 returns-in_err-reply-clause-err c =

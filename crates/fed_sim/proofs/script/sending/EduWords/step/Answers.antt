@@ -24,7 +24,7 @@ returns-in_err-content-clause-wrong c =
     let told = err_from_is_err_and c.from_residual-in_err-content.result c.from_residual-in_err-content.ensures.1 in
     let r = c.in_err-content.ensures in
     rw (told.1, told.2) (content_fault c.args.servers.now (edu_text c.args.self) 126 c.as_bytes.result.now _ r.not_json r.not_canonical r.too_deep
-    (λ none. let bad = rw c.as_bytes.ensures.value at none in rw (c.in_ok-server.ensures.ok, c.in_ok-dests.ensures.listed, bad) refl))
+    (λ none. let bad = rw c.as_bytes.ensures.value at none in rw (c.in_ok-server.ensures.ok, c.in_ok-dests.ensures.ok.listed, bad) refl))
 
 pub returns-clause-ok : goal.returns-clause-ok
 returns-clause-ok c = (
