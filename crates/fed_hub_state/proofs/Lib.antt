@@ -2,3 +2,5 @@ pub mod Spreads
 pub mod Entered
 pub mod Closed
 pub mod Kept
+pub mod Shuts
+pub mod Applied

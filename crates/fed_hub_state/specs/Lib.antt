@@ -6,6 +6,9 @@ pub mod NoRoom
 pub mod Entering
 pub mod EnterFault
 pub mod Closing
+pub mod ShuttingDown
+pub mod ShuttingDownParts
 pub mod Sections
 pub mod KeptRoom
 pub mod KeptRoomParts
+pub mod Applying

@@ -1,5 +1,5 @@
 -- What contracts see of the journal that sends: its entries, and whether it is shut down.
-use Rattle.std.specs.Prelude.{◌≡◌, ◌<◌, ℕ, Bool, true, List, refl}
+use Rattle.std.specs.Prelude.{◌≡◌, ◌≢◌, ◌<◌, ℕ, Bool, true, List, refl}
 use Rattle.std.specs.Coded.{Coded, code_by, coded×, coded_bool, coded_list}
 use Rattle.fed_journal.specs.declared.entry.Entry.{Entry}
 use Rattle.fed_journal.specs.Entry.{entry_code}
@@ -12,6 +12,6 @@ pub record SendingState : Type 0 where
 abbrev pub sending_code : Coded SendingState
 sending_code = code_by (List Entry × Bool) (coded× (coded_list entry_code) coded_bool) (λ j. (j.entries, j.is_shut)) (λ p. record { entries = p.0; is_shut = p.1 }) (λ _. refl)
 
--- the outboxes of the first so many servers are closed
-abbrev pub AreClosed : ℕ → List Entry → Type 0
-AreClosed count entries = (d : ℕ) → d < count → is_closed entries d ≡ true
+-- the outboxes for the first so many servers but the own one are closed
+abbrev pub AreClosed : ℕ → ℕ → List Entry → Type 0
+AreClosed count own entries = (d : ℕ) → d < count → d ≢ own → is_closed entries d ≡ true

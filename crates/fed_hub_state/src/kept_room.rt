@@ -1,10 +1,12 @@
 // A room under its lock.
-ghost use Rattle.std.specs.Prelude.{◌≡◌, ◌≢◌, ◌⊎◌, ◌<◌, ◌++◌, ◌∷◌, [], true, None, Some, Err, IfOk, IfErr, OnOk};
+ghost use Rattle.std.specs.Prelude.{◌≡◌, ◌≢◌, ◌⊎◌, ◌<◌, ◌-◌, ◌++◌, ◌∷◌, [], true, false, None, Some, Err, IfOk, IfErr, IfSome, OnOk, ◌+◌, length, vec_len, vec_capacity};
+ghost use Rattle.fed_hub_state.specs.Applying.{EventIsApplied, came, given, stored_after};
+ghost use Rattle.fed_room.specs.Room.{room_of};
 
 use fed_event::{Checked, Keys};
 use fed_json::NoMemory;
 use fed_room::{Room, StartFault};
-use fed_room_contract::{Draft, Input, Prepared, Refusal, RoomEngine};
+use fed_room_contract::{Applied, Draft, Input, Prepared, Refusal, RoomEngine, Stopped, apply};
 use std::alloc::Global;
 use std::marker::Model;
 
@@ -34,15 +36,16 @@ impl Model for KeptRoom {
 }
 
 impl KeptRoom {
-    ghost use Rattle.fed_room_contract.specs.declared.refusal.Refusal.TheVariants.{Memory};
+    ghost use Rattle.fed_room_contract.specs.declared.refusal.Refusal.TheVariants.{Memory, NotOwnUser};
     ghost use Rattle.fed_room_contract.specs.declared.input.Input.TheVariants.{Commit};
     ghost use Rattle.fed_room_contract.specs.declared.verdict.Verdict.TheVariants.{Accepted};
     ghost use Rattle.fed_room_contract.specs.Graph.{is_ready};
-    ghost use Rattle.fed_room_contract.specs.Prepared.{signer_of, prepared_of};
+    ghost use Rattle.fed_room_contract.specs.Prepared.{signer_of, is_own_user, prepared_of};
     ghost use Rattle.fed_room_contract.specs.Room.{committed, empty_room};
     ghost use Rattle.fed_room.specs.declared.start_fault.StartFault.TheVariants as start;
     ghost use Rattle.fed_room.specs.Room.{room_of, room_rules, IsPrepared};
     ghost use Rattle.fed_room.specs.Start.{after_all, start_fault_of};
+    ghost use Rattle.fed_hub_state.specs.KeptRoom.{id_of};
 
     /// The room that begins with these events at the server of this name, as `Room::start`.
     ///
@@ -62,6 +65,13 @@ impl KeptRoom {
             start,
             inputs: Vec::new(alloc),
         })
+    }
+
+    /// The room's id.
+    pub fn id(&self) -> &str
+        ensures { result.now ≡ id_of self.now }
+    {
+        self.start[0].event().room_id()
     }
 
     /// The room.
@@ -84,14 +94,17 @@ impl KeptRoom {
     ) -> Result<Prepared, Refusal>
         ensures told { let signer = signer_of (K.own_name keys.now) (K.own_key keys.now) (K.own_signature keys.now) (K.checks keys.now) in
             (result ≡ prepared_of room_rules signer (room_of self.old.room).stored draft) ⊎ (result ≡ Err Memory) }
+        ensures foreign { is_own_user (K.own_name keys.now) draft.sender ≡ false → result ≡ Err NotOwnUser }
         ensures accepted { IfOk result (λ p. room_rules.decide (room_of self.old.room).stored p.event ≡ Accepted) }
+        ensures before { IfOk result (λ p. p.before ≡ room_rules.before (room_of self.old.room).stored p.event.event) }
         ensures ready { IfOk result (λ p. is_ready (room_of self.old.room).stored p.event.event ≡ true) }
         ensures prepared { IfOk result (λ p. IsPrepared self.new.room p) }
         ensures free { OnOk result (0 < self.new.free) }
         ensures stays { (room_of self.new.room ≡ room_of self.old.room) × (self.new.start ≡ self.old.start) × (self.new.inputs ≡ self.old.inputs) }
     {
+        let prepared = self.room.prepare(alloc, draft, keys)?;
         self.inputs.reserve(1)?;
-        self.room.prepare(alloc, draft, keys)
+        Ok(prepared)
     }
 
     /// Stores an event that the room has made and accepts, and keeps it among the inputs. It takes no memory.
@@ -106,6 +119,62 @@ impl KeptRoom {
         self.room.commit(prepared);
         // There is room for it.
         self.inputs.push(Input::Commit(input)).unwrap();
+    }
+}
+
+impl KeptRoom {
+    /// Gives the room an event that came, stores all that is then ready, and keeps what it was given. `input` is an equal event. Room for
+    /// all these inputs is made first.
+    ///
+    /// # Errors
+    ///
+    /// `Stopped` where memory runs out, with how far the room came.
+    pub(crate) fn apply(
+        &mut self,
+        alloc: Global,
+        event: Checked,
+        input: Checked,
+    ) -> Result<Applied, Stopped>
+        requires { input ≡ event }
+        ensures { EventIsApplied event self.old result self.new }
+    {
+        let Ok(()) = make_room(&mut self.inputs, &self.room) else {
+            return Err(Stopped::NotReceived(event));
+        };
+        let applied = apply(alloc, &mut self.room, event);
+        keep_given(&mut self.inputs, input, &applied);
+        applied
+    }
+}
+
+// Makes room for an event that comes to a room, and for all that may be stored after it.
+fn make_room(inputs: &mut Vec<Input>, room: &Room) -> Result<(), NoMemory>
+    ensures room { OnOk result (length (room_of room.now).waiting + 1 < vec_capacity inputs.new - vec_len inputs.new) }
+    ensures items { inputs.new.items ≡ inputs.old.items }
+{
+    inputs.reserve(room.waiting().len() + 2)
+}
+
+// Keeps what a room was given when an event came to it, for which there is room.
+fn keep_given(inputs: &mut Vec<Input>, event: Checked, applied: &Result<Applied, Stopped>)
+    requires { IfSome (stored_after applied.now) (λ more. more < vec_capacity inputs.old - vec_len inputs.old) }
+    ensures { inputs.new.items ≡ inputs.old.items ++ given event applied.now }
+{
+    match applied {
+        Ok(applied) => keep(inputs, event, applied.more),
+        Err(Stopped::Received(applied)) => keep(inputs, event, applied.more),
+        Err(Stopped::NotReceived(_)) => drop(event),
+    }
+}
+
+// Keeps an event that came and so many advances as inputs, for which there is room.
+fn keep(inputs: &mut Vec<Input>, event: Checked, advances: usize)
+    requires { advances < vec_capacity inputs.old - vec_len inputs.old }
+    ensures { inputs.new.items ≡ inputs.old.items ++ came event advances }
+{
+    inputs.push(Input::Receive(event)).unwrap();
+    for _ in 0..advances {
+        inputs.push(Input::Advance).unwrap();
     }
 }
 

@@ -14,6 +14,7 @@
 //! - `sections`: what a thread does while it holds locks
 //! - `client_token`: `ClientToken`, how much a client was told
 //! - `spreading`: how a load goes over the wires
+//! - `shutting_down`: how the outboxes for all other servers are closed
 #![tactic(auto)]
 
 mod client_token;
@@ -23,6 +24,7 @@ mod naming;
 mod seated_outbox;
 pub mod sections;
 mod sending_journal;
+mod shutting_down;
 mod spreading;
 mod unplaced;
 

@@ -2,8 +2,9 @@
 use std::marker::{Brand, PhantomData};
 use std::sync::ledger::Ledger;
 
-/// What a server's threads share, by the names that no other server's bear: a wire for each listed server, in the order of their places; a
-/// board; and the ledgers of the events and of the EDUs that clients were told of, which are cut into so many parts.
+/// What a server's threads share, by the names that no other server's bear: a wire for each listed server, in the order of their places, and
+/// the place of the own one among them; a board; and the ledgers of the events and of the EDUs that clients were told of, which are cut into
+/// so many parts.
 ///
 /// A value under a lock is known by its type alone: so each type whose values have to agree on these names is generic over them.
 pub trait Naming {
@@ -13,6 +14,8 @@ pub trait Naming {
     ghost use Rattle.fed_wires.specs.Board.{BoardId};
 
     ghost wires: { List (WireId Parcel) };
+
+    ghost own: { ℕ };
 
     ghost board: { BoardId };
 
@@ -28,6 +31,8 @@ impl Naming for Brand {
     ghost use Rattle.fed_wires.specs.Board.{no_board};
 
     ghost wires = { [] };
+
+    ghost own = { 0 };
 
     ghost board = { no_board };
 

@@ -4,10 +4,14 @@ ghost use Rattle.std.specs.Prelude.{◌≡◌, ◌<◌, ◌≤◌, length, None,
 ghost use Rattle.fed_journal.specs.Edu.{edu_fault_of};
 ghost use Rattle.fed_outbox.specs.Outbox.{cut, can_cut};
 ghost use Rattle.fed_outbox.specs.Answering.{failed_once, due_told, answered, answer_told};
-ghost use Rattle.fed_journal.specs.declared.parcel.Load.TheVariants.{Edu, Event};
+ghost use Rattle.fed_journal.specs.declared.offered.Offered.TheVariants as offered;
+ghost use Rattle.fed_journal.specs.declared.parcel.Load.TheVariants.{Edu};
+ghost use Rattle.fed_journal.specs.Offered.{load_of};
 ghost use Rattle.fed_room_contract.specs.declared.verdict.Verdict.TheVariants.{Accepted};
 ghost use Rattle.fed_room.specs.Room.{room_of, room_rules, IsPrepared};
+ghost use Rattle.fed_hub_state.specs.Applying.{EventIsApplied};
 ghost use Rattle.fed_hub_state.specs.Sections.{IsRefused, IsCollected, EventIsOffered, EduIsOffered, OutboxIsClosed};
+ghost use Rattle.fed_hub_state.specs.ShuttingDown.{ShutsDown};
 ghost use Rattle.fed_hub_state.specs.Spreading.{AreAll, dests_of};
 
 use crate::client_token::ClientToken;
@@ -21,8 +25,9 @@ use fed_event::Checked;
 use fed_journal::{JournalFault, Offered, Parcel};
 use fed_json::Json;
 use fed_outbox::{OutboxFault, Settlement};
-use fed_room_contract::Prepared;
+use fed_room_contract::{Applied, Prepared, Stopped};
 use fed_wires::Board;
+use std::alloc::Global;
 use std::sync::Wait;
 
 /// An event that a room has made of a draft, on its way into the journal: equal ones for the journal and for the room's inputs, the servers that
@@ -30,7 +35,7 @@ use std::sync::Wait;
 #[derive(Drop)]
 pub struct Outgoing {
     pub prepared: Prepared,
-    pub event: Checked,
+    pub offered: Offered,
     pub input: Checked,
     pub dests: ServerSet,
     pub loads: Vec<Unplaced>,
@@ -53,20 +58,20 @@ pub fn offer<N: Naming, R: Wait>(
     requires prepared { IsPrepared room.old.room outgoing.prepared }
     requires accepted { room_rules.decide (room_of room.old.room).stored outgoing.prepared.event ≡ Accepted }
     requires free { 0 < room.old.free }
-    requires equal { (outgoing.event ≡ outgoing.prepared.event) × (outgoing.input ≡ outgoing.prepared.event) }
+    requires equal { (outgoing.offered ≡ offered.Event outgoing.prepared.event) × (outgoing.input ≡ outgoing.prepared.event) }
     requires within { All (λ d. d < length N.wires) outgoing.dests }
     requires dests { dests_of outgoing.loads.items ≡ outgoing.dests }
-    requires same { AreAll (Event outgoing.event) outgoing.loads.items }
+    requires same { AreAll (load_of outgoing.offered) outgoing.loads.items }
     ensures { EventIsOffered outgoing.prepared outgoing.dests (room_of room.old.room) journal.old client.old result (room_of room.new.room) journal.new client.new }
 {
     let Outgoing {
         prepared,
-        event,
+        offered,
         input,
         dests,
         loads,
     } = outgoing;
-    let number = journal.enter(rt, client, Offered::Event(event), dests, loads)?;
+    let number = journal.enter(rt, client, offered, dests, loads)?;
     room.commit(prepared, input);
     Ok(number)
 }
@@ -109,6 +114,22 @@ pub fn close<N: Naming, R: Wait>(
     ensures { OutboxIsClosed dest journal.old result journal.new }
 {
     journal.close(rt, dest)
+}
+
+/// Close, in turn for all servers but the own one whose outboxes are open; nothing is offered from then on. As `SendingJournal::shut_down`.
+///
+/// # Errors
+///
+/// In this order; all is then as it was: `Limit`, `Memory`.
+pub fn shut_down<N: Naming, R: Wait>(
+    rt: &R,
+    journal: &mut SendingJournal<N>,
+    own: ServerIndex,
+) -> Result<(), JournalFault>
+    requires { own ≡ N.own }
+    ensures { ShutsDown (length N.wires) N.own journal.old result journal.new }
+{
+    journal.shut_down(rt, own)
 }
 
 /// Collect: a parcel that was received goes into its outbox.
@@ -163,4 +184,22 @@ pub fn settle<N: Naming>(
     let settlement = outbox.outbox.answered(n, status, now);
     board.raise(&mut outbox.seat, outbox.outbox.acked());
     settlement
+}
+
+/// Apply: an event that was received goes to its room, and all that is then ready is stored. `input` is an equal event, which is kept among
+/// the room's inputs.
+///
+/// # Errors
+///
+/// `Stopped` where memory runs out, with how far the room came: the event comes back where the room did not receive it, and is as it was then.
+pub fn apply(
+    alloc: Global,
+    room: &mut KeptRoom,
+    event: Checked,
+    input: Checked,
+) -> Result<Applied, Stopped>
+    requires { input ≡ event }
+    ensures { EventIsApplied event room.old result room.new }
+{
+    room.apply(alloc, event, input)
 }

@@ -1,9 +1,10 @@
 // The journal, and the ends that send of its wires.
-ghost use Rattle.std.specs.Prelude.{◌≡◌, ◌<◌, ◌+◌, ◌++◌, ◌∷◌, [], length, not, true, false, All, Ok, Err, Some, IfOk, IfErr, OnOk, OnErr};
+ghost use Rattle.std.specs.Prelude.{◌≡◌, ◌<◌, ◌≤◌, ◌+◌, ◌++◌, ◌∷◌, [], length, not, true, false, All, Ok, Err, Some, IfOk, IfErr, OnOk, OnErr};
 ghost use Rattle.std.specs.List.{filter};
 ghost use Rattle.fed_journal.specs.Journal.{is_closed, next_place, placed, events_of, edus_of};
 ghost use Rattle.fed_journal.specs.Offered.{load_of};
 ghost use Rattle.fed_journal.specs.Offering.{has_place};
+ghost use mathlib.Core.List.{IsPrefix};
 ghost use Rattle.fed_hub_state.specs.Closing.{ClosesOpen};
 ghost use Rattle.fed_hub_state.specs.NoRoom.{HasNoRoom};
 ghost use Rattle.fed_hub_state.specs.Spreading.{AreAll, dests_of};
@@ -11,12 +12,13 @@ ghost use Rattle.fed_hub_state.specs.Spreading.{AreAll, dests_of};
 use crate::client_token::ClientToken;
 use crate::in_place::InPlace;
 use crate::naming::{EduLedger, EventLedger, Naming};
+use crate::shutting_down::{close_others, make_places, others_open};
 use crate::spreading::{goes, pass_all_on};
 use crate::unplaced::Unplaced;
-use fed_dest::{ServerIndex, ServerSet};
+use fed_dest::{MAX_SERVERS, ServerIndex, ServerSet};
 use fed_journal::{Cause, Entry, Journal, JournalFault, Load, Offered, Parcel, Place};
 use fed_json::NoMemory;
-use fed_wires::SendEnd;
+use fed_wires::{ReceiveEnd, SendEnd};
 use std::alloc::Global;
 use std::marker::Model;
 use std::sync::Wait;
@@ -53,7 +55,7 @@ impl From<JournalFault> for EnterFault {
 
 /// The journal of a server, with the ends that send of its wires and the books of what clients were told of. Over each wire went just the
 /// parcels that the journal places for its destination; an outbox is closed as lost only where a parcel came back; the books have as many
-/// events and EDUs as the journal; and where it is shut down, all outboxes are closed.
+/// events and EDUs as the journal; and where it is shut down, the outboxes for all other servers are closed.
 ///
 /// Contracts see it as the list of its entries, and whether it is shut down.
 #[derive(Drop)]
@@ -66,7 +68,7 @@ pub struct SendingJournal<N: Naming> {
 }
 
 impl<N: Naming> Model for SendingJournal<N> {
-    ghost use Rattle.std.specs.Prelude.{◌≡◌, true, length};
+    ghost use Rattle.std.specs.Prelude.{◌≡◌, ◌≤◌, true, length};
     ghost use Rattle.fed_journal.specs.Journal.{events_of, edus_of};
     ghost use Rattle.fed_hub_state.specs.SendingJournal.{SendingState, sending_code, AreClosed};
     ghost use Rattle.fed_hub_state.specs.Spreading.{AreSent};
@@ -80,7 +82,8 @@ impl<N: Naming> Model for SendingJournal<N> {
     ghost invariant = { λ j. AreSent N.wires j.journal.entries j.ends.items
         × (j.events.total ≡ length (events_of j.journal.entries))
         × (j.edus.total ≡ length (edus_of j.journal.entries))
-        × (j.is_shut ≡ true → AreClosed (length N.wires) j.journal.entries) };
+        × (j.is_shut ≡ true → AreClosed (length N.wires) N.own j.journal.entries)
+        × (length N.wires ≤ 64) };
 }
 
 impl<N: Naming> SendingJournal<N> {
@@ -101,6 +104,7 @@ impl<N: Naming> SendingJournal<N> {
     ) -> Result<(SendingJournal<N>, ClientToken<N>), NoMemory>
         requires wires { wires_of ends.items ≡ N.wires }
         requires unused { AreUnused ends.items }
+        requires few { length N.wires ≤ MAX_SERVERS }
         requires events { (events.name ≡ N.events) × (events.parts ≡ N.parts) }
         requires edus { (edus.name ≡ N.edus) × (edus.parts ≡ N.parts) }
         ensures journal { IfOk result (λ r. r.0 ≡ record { entries = []; is_shut = false }) }
@@ -175,7 +179,10 @@ impl<N: Naming> SendingJournal<N> {
 }
 
 impl<N: Naming> SendingJournal<N> {
+    ghost use Rattle.std.specs.Prelude.{slice_get};
+    ghost use Rattle.fed_journal.specs.Journal.{parcels};
     ghost use Rattle.fed_hub_state.specs.Closing.{Closes};
+    ghost use Rattle.fed_hub_state.specs.ShuttingDown.{ShutsDown};
 
     /// Closes the outbox for a destination, and says whether it was open: the end goes over its wire, or comes back and the outbox is lost.
     /// Where it was closed, nothing is done and no memory is taken.
@@ -198,10 +205,42 @@ impl<N: Naming> SendingJournal<N> {
         close_open(rt, &mut self.journal, end, place);
         Ok(true)
     }
+
+    /// Shuts the journal down: closes the outboxes for all servers but the own one that are open, in the order of their places, each as
+    /// `close`, and refuses all that is offered from then on. Where it is shut down, nothing is done and no memory is taken.
+    ///
+    /// # Errors
+    ///
+    /// In this order; all is then as it was.
+    ///
+    /// - `Limit`, exactly where it is not shut down and has no place for the closings
+    /// - `Memory`, where memory runs out
+    pub fn shut_down<R: Wait>(&mut self, rt: &R, own: ServerIndex) -> Result<(), JournalFault>
+        requires { own ≡ N.own }
+        ensures { ShutsDown (length N.wires) N.own self.old result self.new }
+    {
+        if self.is_shut {
+            return Ok(());
+        }
+        let open = others_open(&self.journal, own, self.ends.len());
+        make_places(&mut self.journal, open)?;
+        close_others::<N, R>(rt, &mut self.journal, &mut self.ends, own);
+        self.is_shut = true;
+        Ok(())
+    }
+
+    /// Compares what the journal places for a destination with what the other end of its wire received: that is a front of it.
+    pub fn compare(&mut self, dest: ServerIndex, end: &mut ReceiveEnd<Parcel, InPlace>)
+        requires wire { slice_get N.wires dest ≡ Some end.old.wire }
+        ensures same { (self.new ≡ self.old) × (end.new ≡ end.old) }
+        ensures front { IsPrefix end.old.received (parcels self.old.entries dest) }
+    {
+        self.ends[dest.place()].compare(end);
+    }
 }
 
-// Closes the outbox of an end's destination, whose next parcel has this place: the end is sent over the wire.
-fn close_open<R: Wait>(
+/// Closes the outbox of an end's destination, whose next parcel has this place: the end is sent over the wire.
+pub(crate) fn close_open<R: Wait>(
     rt: &R,
     journal: &mut Journal,
     end: &mut SendEnd<Parcel, InPlace>,

@@ -1,6 +1,6 @@
 use Rattle.std.proofs.Common.{◌≡◌, ℕ, List, true≢false, Result, Ok, Err, refl, sym, ap, ◌∙◌, subst}
 use Rattle.std.specs.Result.{IsErr, IsErrAnd}
-use Rattle.fed_event.specs.Checked.{CheckedEvent}
+use Rattle.fed_journal.specs.declared.offered.Offered.{Offered}
 use Rattle.fed_journal.specs.declared.offered.Offered.TheVariants.{Event}
 use Rattle.fed_journal.specs.Offering as step
 use Rattle.fed_journal.specs.Offering.{open_among, with_lost}
@@ -38,7 +38,7 @@ returns-in_err-number g c =
     let room = room_of c.args.room.now.room in
     let told = c.in_err-number.was ∙ sym (err_is c.from_residual.result c.in_err-number.field-0.0 c.from_residual.ensures.0 c.from_residual.ensures.1) in
     let enters : Enters (Event p.event) dests c.args.journal.now c.args.client.now (Err c.in_err-number.field-0.0) c.enter.new.self c.enter.new.client =
-    subst (λ (y : CheckedEvent × Result ℕ EnterFault). Enters (Event y.0) dests c.args.journal.now c.args.client.now y.1 c.enter.new.self c.enter.new.client)
+    subst (λ (y : Offered × Result ℕ EnterFault). Enters y.0 dests c.args.journal.now c.args.client.now y.1 c.enter.new.self c.enter.new.client)
     (λ i. (c.requires.equal.0 i, c.in_err-number.was i)) c.enter.ensures in
     subst (λ (r : Result ℕ EnterFault). EventIsOffered p dests room c.args.journal.now c.args.client.now r room c.enter.new.self c.enter.new.client)
     (sym c.in_err-number.was ∙ told)
@@ -50,7 +50,7 @@ returns g c =
     let dests = c.args.outgoing.dests in
     let room = room_of c.args.room.now.room in
     let enters : Enters (Event p.event) dests c.args.journal.now c.args.client.now (Ok c.in_ok-number.number) c.enter.new.self c.enter.new.client =
-    subst (λ (y : CheckedEvent × Result ℕ EnterFault). Enters (Event y.0) dests c.args.journal.now c.args.client.now y.1 c.enter.new.self c.enter.new.client)
+    subst (λ (y : Offered × Result ℕ EnterFault). Enters y.0 dests c.args.journal.now c.args.client.now y.1 c.enter.new.self c.enter.new.client)
     (λ i. (c.requires.equal.0 i, c.in_ok-number.was i)) c.enter.ensures in
     subst (λ (r : RoomState). EventIsOffered p dests room c.args.journal.now c.args.client.now (Ok c.in_ok-number.number) r c.enter.new.self c.enter.new.client)
     (sym c.commit.ensures.room)

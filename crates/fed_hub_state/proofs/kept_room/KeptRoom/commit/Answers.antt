@@ -18,6 +18,7 @@ invariant_of-self c =
     c.push.ensures.items ∙ ap (λ r. if is_ok r then k.inputs.items ++ Commit c.args.input ∷ [] else k.inputs.items) c.unwrap.ensures ∙ ap (λ e. k.inputs.items ++ Commit e ∷ []) c.requires.input in
     let is : room_of c.args.self.now.room ≡ room_after room_rules base k.inputs.items = ap (λ (s : KeptState). room_of s.room) (sym c.self.view_is) ∙ c.self.invariant.after in
     record {
+      some = c.self.invariant.some;
       after =
           c.commit.ensures.after ∙ ap (λ (r : RoomState). committed r event) c.self.invariant.after ∙ sym (room_after-++ room_rules base k.inputs.items (Commit event ∷ []))
           ∙ ap (room_after room_rules base) (sym items);

@@ -50,7 +50,8 @@ invariant_of-self-2 g c =
       subst (λ (y : List Entry × ℕ). AreSent g.N.Naming.wires y.0 (set ends y.1 new)) (λ i. (sym shut.1.0 i, sym c.place-2.ensures.place i)) shut.1.1,
       c.self.invariant.1 ∙ ap length (sym (same_events old d shut.0)) ∙ ap (λ es. length (events_of es)) (sym entries),
       c.self.invariant.2 ∙ ap length (sym (same_edus old d shut.0)) ∙ ap (λ es. length (edus_of es)) (sym entries),
-      λ is e within. ap (λ es. is_closed es e) entries ∙ stays_closed old (Close d shut.0 ∷ []) e (c.self.invariant.3 is e within),
+      (λ is e within other. ap (λ es. is_closed es e) entries ∙ stays_closed old (Close d shut.0 ∷ []) e (c.self.invariant.3 is e within other)),
+      c.self.invariant.4,
     )
 
 pub returns : goal.returns

@@ -61,7 +61,8 @@ invariant_of-self-2 g c =
           ∙ sym (then_events g.N.Naming.wires c.args.offered c.args.dests old c.args.client.now c.those_open-loads.result.items c.pass_all_on.new.journal c.pass_all_on.new.ends way are rising c.append_to.new.journal.entries is),
       c.note.ensures.edus ∙ ap (λ n. n + edu_count c.args.offered) c.self.invariant.2
           ∙ sym (then_edus g.N.Naming.wires c.args.offered c.args.dests old c.args.client.now c.those_open-loads.result.items c.pass_all_on.new.journal c.pass_all_on.new.ends way are rising c.append_to.new.journal.entries is),
-      λ shut. absurd (true≢false (sym shut ∙ c.if-self.false)),
+      (λ shut. absurd (true≢false (sym shut ∙ c.if-self.false))),
+      c.self.invariant.4,
     )
 
 pub returns : goal.returns

@@ -1,0 +1,61 @@
+use Rattle.std.proofs.Common.{arith, ◌≡◌, ◌≢◌, true, ℕ, List, Ok, length, refl, sym, ap, ◌∙◌, subst}
+use Rattle.std.proofs.lemmas.List.{with_items_is}
+use Rattle.fed_journal.specs.declared.entry.Entry.{Entry}
+use Rattle.fed_journal.specs.Journal.{events_of, edus_of}
+use Rattle.fed_hub_state.specs.SendingJournal.{SendingState}
+use Rattle.fed_hub_state.specs.ShuttingDown.{ShutsDown, AreClosedInTurn, others_open, has_places}
+use Rattle.fed_hub_state.specs.Spreading.{AreSent}
+use Rattle.fed_hub_state.proofs.Shuts.{events_stay, edus_stay, no_places_told}
+use Rattle.fed_hub_state.proofs.sending_journal.SendingJournal.shut_down.Goals as goal
+
+pub returns-then-self : goal.returns-then-self
+returns-then-self g c = ShutsDown.before (ap (λ (s : SendingState). s.is_shut) (sym c.self.view_is) ∙ c.if-self.true)
+
+pub returns-in_err-make_places : goal.returns-in_err-make_places
+returns-in_err-make_places g c =
+    let n = length g.N.Naming.wires in
+    let own = g.N.Naming.own in
+    let old : SendingState = record { entries = c.self.inside.journal.entries; is_shut = c.self.inside.is_shut } in
+    let ends : c.len.result ≡ n = c.len.ensures ∙ c.self.inside.ends.ok.0 ∙ c.self.invariant.0.count in
+    let count : c.others_open-open.result ≡ length (others_open n own old.entries) = c.others_open-open.ensures ∙ (λ i. length (others_open (ends i) (c.requires i) old.entries)) in
+    subst (λ (y : SendingState × SendingState). ShutsDown n own y.0 c.from_residual.result y.1)
+    (λ i. (c.self.view_is i, record { entries = sym c.in_err-make_places.ensures.entries i; is_shut = c.self.inside.is_shut }))
+    (no_places_told n own old c.others_open-open.result c.in_err-make_places.field-0.0 c.from_residual.result count c.if-self.false c.in_err-make_places.ensures.refused c.from_residual.ensures.0 c.from_residual.ensures.1)
+
+pub close_others-requires-clause-room : goal.close_others-requires-clause-room
+close_others-requires-clause-room g c =
+    let n = length g.N.Naming.wires in
+    let ends : c.len.result ≡ n = c.len.ensures ∙ c.self.inside.ends.ok.0 ∙ c.self.invariant.0.count in
+    let count = c.others_open-open.ensures ∙ (λ i. length (others_open (ends i) c.args.own (sym c.in_ok-make_places.ensures.entries i))) in
+    omega (arith, sym count, c.in_ok-make_places.ensures.room)
+
+pub close_others-requires-clause-places : goal.close_others-requires-clause-places
+close_others-requires-clause-places g c =
+    let n = length g.N.Naming.wires in
+    let ends : c.len.result ≡ n = c.len.ensures ∙ c.self.inside.ends.ok.0 ∙ c.self.invariant.0.count in
+    let same = c.in_ok-make_places.ensures.entries in
+    let count = c.others_open-open.ensures ∙ (λ i. length (others_open (ends i) c.args.own (sym same i))) in
+    (λ i. has_places (same i) (sym count i)) ∙ c.in_ok-make_places.ensures.places
+
+pub invariant_of-self-2 : goal.invariant_of-self-2
+invariant_of-self-2 g c =
+    let items = with_items_is c.self.inside.ends c.close_others.new.ends (omega (arith, c.close_others.auto.ends, ap length c.deref_mut.ensures.value, c.self.inside.ends.ok.0)) in
+    let same = c.in_ok-make_places.ensures.entries in
+    let turn = c.close_others.ensures.turn in
+    let before = c.make_places.new.journal.entries in
+    let after = c.close_others.new.journal.entries in
+    let dests = others_open (length g.N.Naming.wires) c.args.own before in (
+      subst (AreSent g.N.Naming.wires after) (sym items) c.close_others.ensures.sent,
+      c.self.invariant.1 ∙ ap (λ (es : List Entry). length (events_of es)) (sym same) ∙ ap length (sym (events_stay before dests after turn)),
+      c.self.invariant.2 ∙ ap (λ (es : List Entry). length (edus_of es)) (sym same) ∙ ap length (sym (edus_stay before dests after turn)),
+      (λ _ d within other. c.close_others.ensures.shut d within (λ e. other (e ∙ c.requires))),
+      c.self.invariant.4,
+    )
+
+pub returns : goal.returns
+returns g c =
+    let n = length g.N.Naming.wires in
+    let old : SendingState = record { entries = c.self.inside.journal.entries; is_shut = c.self.inside.is_shut } in
+    let turn = subst (λ (y : List Entry × ℕ). AreClosedInTurn y.0 (others_open n y.1 y.0) c.close_others.new.journal.entries) (λ i. (c.in_ok-make_places.ensures.entries i, c.requires i)) c.close_others.ensures.turn in
+    subst (λ (s : SendingState). ShutsDown n g.N.Naming.own s (Ok tt) (record { entries = c.close_others.new.journal.entries; is_shut = true })) c.self.view_is
+    (ShutsDown.now c.close_others.new.journal.entries c.if-self.false turn)
