@@ -1,0 +1,6 @@
+pub mod Places
+pub mod Spreads
+pub mod Sent
+pub mod Wiring
+pub mod Takes
+pub mod Served

@@ -1,0 +1,10 @@
+pub mod Bound
+pub mod Brought
+pub mod Points
+pub mod JudgedRequest
+pub mod Answering
+pub mod Wires
+pub mod WiresParts
+pub mod Spreading
+pub mod Serving
+pub mod Sections

@@ -1,0 +1,161 @@
+// An inbox under its lock.
+ghost use Rattle.std.specs.Prelude.{◌≡◌, ◌≢◌, [], false, true, None, IfOk, OnErr, length, replicate};
+ghost use Rattle.fed_inbox.specs.History.{IsHistory};
+ghost use Rattle.fed_inbox.specs.Receiver.{IsInboxOf};
+ghost use Rattle.fed_hub_serving.specs.Wires.{AreUnused, names_of};
+ghost use Rattle.fed_hub_serving.specs.JudgedRequest.{IsJudged};
+ghost use Rattle.fed_hub_serving.specs.Serving.{IsKeptFrom, AreLeft, with_rooms_ended};
+ghost use Rattle.fed_hub_serving.specs.Sections.{RequestIsTaken, IsServed};
+
+use crate::answering::{Answered, answer};
+use crate::bound::Bound;
+use crate::end_place::EndPlace;
+use crate::judged_request::JudgedRequest;
+use crate::kept_point::KeptPoint;
+use crate::naming::ServingNaming;
+use crate::room_wire::EndedWire;
+use crate::room_wires::RoomWires;
+use fed_event::Checked;
+use fed_http::Reply;
+use fed_inbox::{Inbox, Refusal};
+use fed_json::NoMemory;
+use fed_replies::ReplyStore;
+use fed_wires::{AnyMessage, SendEnd};
+use std::alloc::Global;
+use std::marker::{Model, PhantomData};
+use std::sync::Wait;
+
+/// The inbox of a server, with the history of the requests that it answered and the ends that send of the rooms' wires. Whenever its lock is
+/// free it is the inbox after this history; and over the wire of each room went just the events that the history brought for the room, in
+/// order, up to where the wire ended.
+///
+/// Contracts see it as the inbox, the history, where each wire ended, and whether all were ended.
+#[derive(Drop)]
+pub struct KeptInbox<N: ServingNaming, S: ReplyStore> {
+    inbox: Inbox<S>,
+    points: Vec<KeptPoint>,
+    wires: RoomWires,
+    of: PhantomData<N>,
+}
+
+impl<N: ServingNaming, S: ReplyStore> Model for KeptInbox<N, S> {
+    ghost use Rattle.std.specs.Prelude.{map};
+    ghost use Rattle.fed_hub_serving.specs.Serving.{ServingState, serving_code, ended_in, IsServing};
+
+    ghost Value = { ServingState };
+
+    ghost coded = { serving_code };
+
+    ghost view = { λ k. record { inbox = k.inbox.state; points = k.points.items; ended = ended_in k.wires; is_shut = k.wires.is_shut } };
+
+    ghost invariant = { λ k. IsServing N.rooms N.known N.checks N.receiver N.beginning k.points.items k.inbox.state k.wires };
+}
+
+impl<N: ServingNaming, S: ReplyStore + Drop> KeptInbox<N, S> {
+    /// An inbox that has answered no request, with the ends that send of the rooms' wires, over which nothing went.
+    pub fn new(
+        alloc: Global,
+        inbox: Inbox<S>,
+        ends: Vec<SendEnd<Checked, AnyMessage>>,
+    ) -> Result<KeptInbox<N, S>, NoMemory>
+        requires beginning { inbox.state ≡ N.beginning }
+        requires receiver { IsInboxOf N.receiver inbox.state }
+        requires wires { names_of ends.items ≡ N.rooms }
+        requires unused { AreUnused ends.items }
+        ensures { IfOk result (λ kept. kept ≡ record { inbox = inbox.state; points = []; ended = replicate (length ends.items) None; is_shut = false }) }
+    {
+        let wires = RoomWires::new(alloc, ends)?;
+        Ok(KeptInbox {
+            inbox,
+            points: Vec::new(alloc),
+            wires,
+            of: PhantomData,
+        })
+    }
+}
+
+impl<N: ServingNaming, S: ReplyStore> KeptInbox<N, S> {
+    /// The inbox.
+    pub fn inbox(&self) -> &Inbox<S>
+        ensures { result.now.state ≡ self.now.inbox }
+    {
+        &self.inbox
+    }
+
+    /// The history of the requests that it answered, in order; those that it answered 500 are not among them. It is the inbox after these
+    /// requests.
+    pub fn points(&self) -> &[KeptPoint]
+        ensures points { result.now ≡ self.now.points }
+        ensures history { IsKeptFrom N.checks N.beginning self.now }
+    {
+        &self.points
+    }
+
+    /// What is left of the rooms' wires, once they are all ended: over each went just the events that the history brought for its room, up
+    /// to where it ended.
+    pub fn ended(&self) -> &[EndedWire]
+        ensures { self.now.is_shut ≡ true → AreLeft N.rooms N.known self.now result.now }
+    {
+        self.wires.ended()
+    }
+
+    /// Ends the wires of all rooms, each here where it has not ended before: what is taken from now on goes to no room. It takes no memory.
+    pub fn end_rooms(&mut self)
+        ensures { self.new ≡ with_rooms_ended self.old }
+    {
+        let points = self.points.len();
+        self.wires.end_all(EndPlace { points, events: 0 });
+    }
+
+    /// Answers a request that was judged apart from the inbox, keeps it with its reply among the history, and sends the events that it brings
+    /// over the wires to their rooms. Where memory runs out it answers 500, and all is as it was.
+    pub(crate) fn take<R: Wait>(&mut self, rt: &R, alloc: Global, judged: JudgedRequest) -> Reply
+        requires { IsJudged N.checks N.receiver N.known judged }
+        ensures { RequestIsTaken N.checks N.known judged.request self.old result self.new }
+    {
+        match self.serve(rt, alloc, judged) {
+            Ok(reply) => reply,
+            Err(NoMemory) => Reply::from(Refusal::OutOfMemory),
+        }
+    }
+
+    // The same, but for the reply where memory runs out.
+    fn serve<R: Wait>(
+        &mut self,
+        rt: &R,
+        alloc: Global,
+        judged: JudgedRequest,
+    ) -> Result<Reply, NoMemory>
+        requires { IsJudged N.checks N.receiver N.known judged }
+        ensures served { IfOk result (λ reply. IsServed N.checks N.known judged.request self.old reply self.new) }
+        ensures err { OnErr result (self.new ≡ self.old) }
+    {
+        let JudgedRequest {
+            request,
+            comes_to,
+            reply: first,
+            bound,
+        } = judged;
+        self.points.reserve(1)?;
+        let Answered { reply, copy, fresh } = answer(alloc, &mut self.inbox, comes_to, first)?;
+        let bound = all_or_none(alloc, &fresh, bound);
+        let points = self.points.len();
+        self.wires.pass_all_on::<N, R>(rt, points, bound);
+        // There is room for it.
+        self.points
+            .push(KeptPoint::new(request, copy, fresh))
+            .unwrap();
+        Ok(reply)
+    }
+}
+
+// The copies of the events that a request brings, where it brought any.
+fn all_or_none(alloc: Global, fresh: &[Checked], bound: Vec<Bound>) -> Vec<Bound>
+    ensures none { fresh.now ≡ [] → result.items ≡ [] }
+    ensures all { fresh.now ≢ [] → result.items ≡ bound.items }
+{
+    if fresh.is_empty() {
+        return Vec::new(alloc);
+    }
+    bound
+}

@@ -1,0 +1,31 @@
+//! What the threads of a server that serves share beside what `fed_hub_state` has: the inbox with the history of the requests that it answered
+//! and the ends that send of the rooms' wires, under one lock; and the section that answers a request.
+//!
+//! - `naming`: `ServingNaming`, the names by which contracts know the rooms, their wires, and what the server's inbox began with
+//! - `kept_inbox`: `KeptInbox`, the inbox, its history and the wires
+//! - `kept_point`: `KeptPoint`, a request with its reply and the events that it brought
+//! - `room_wires`: the ends that send of the rooms' wires, and how events go over them
+//! - `room_wire`: `EndedWire`, a wire that has ended; `end_place`: `EndPlace`, where
+//! - `judged_request`: `JudgedRequest`, a request that was read and judged apart from the inbox
+//! - `bound`: events on their way to their rooms
+//! - `answering`: what an inbox answers to a request that was judged
+//! - `sections`: what a thread does while it holds the lock
+#![tactic(auto)]
+
+mod answering;
+mod bound;
+mod end_place;
+mod judged_request;
+mod kept_inbox;
+mod kept_point;
+mod naming;
+mod room_wire;
+mod room_wires;
+pub mod sections;
+
+pub use end_place::EndPlace;
+pub use judged_request::JudgedRequest;
+pub use kept_inbox::KeptInbox;
+pub use kept_point::KeptPoint;
+pub use naming::ServingNaming;
+pub use room_wire::EndedWire;

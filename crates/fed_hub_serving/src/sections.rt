@@ -1,0 +1,28 @@
+//! The sections: what a thread does while it holds the inbox's lock. Each is one function that is lent what lies under it, and what it does is
+//! the definition of the same step at a server of one thread.
+ghost use Rattle.std.specs.Prelude.{◌≡◌};
+ghost use Rattle.fed_hub_serving.specs.JudgedRequest.{IsJudged};
+ghost use Rattle.fed_hub_serving.specs.Sections.{RequestIsTaken};
+
+use crate::judged_request::JudgedRequest;
+use crate::kept_inbox::KeptInbox;
+use crate::naming::ServingNaming;
+use fed_http::Reply;
+use fed_replies::ReplyStore;
+use std::alloc::Global;
+use std::sync::Wait;
+
+/// Take: a request that was judged apart from the inbox is answered. Where its transaction was taken before it gets the kept reply; else it is
+/// taken where it is to be, and its events go over the wires to their rooms. The request is kept with its reply; but where memory runs out the
+/// answer is 500, and all is as it was.
+pub fn take<N: ServingNaming, S: ReplyStore, R: Wait>(
+    rt: &R,
+    alloc: Global,
+    inbox: &mut KeptInbox<N, S>,
+    judged: JudgedRequest,
+) -> Reply
+    requires { IsJudged N.checks N.receiver N.known judged }
+    ensures { RequestIsTaken N.checks N.known judged.request inbox.old result inbox.new }
+{
+    inbox.take(rt, alloc, judged)
+}
