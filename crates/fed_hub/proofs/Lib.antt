@@ -1,0 +1,9 @@
+pub mod Ids
+pub mod Doubles
+pub mod Seating
+pub mod Waiting
+pub mod Destined
+pub mod Going
+pub mod Loaded
+pub mod Sendings
+pub mod Made

@@ -1,0 +1,10 @@
+pub mod Names
+pub mod Opened
+pub mod Setup
+pub mod Hub
+pub mod Faults
+pub mod Held
+pub mod Tokens
+pub mod Offering
+pub mod Collecting
+pub mod Sending

@@ -1,0 +1,54 @@
+// What the threads of a server share.
+ghost use Rattle.std.specs.Prelude.{◌≡◌, ◌<◌, ◌≤◌, slice_index};
+ghost use Rattle.fed_wires.specs.Board.{word_count};
+ghost use Rattle.fed_wires.specs.Seat.{with_load};
+
+use crate::rooms::Rooms;
+use crate::tokens::Seat;
+use fed_dest::{List, ServerIndex};
+use fed_event::Keys;
+use fed_hub_state::{Naming, SeatedOutbox, SendingJournal};
+use fed_wires::Board;
+use std::marker::Model;
+use std::sync::Mutex;
+
+/// What the threads of a server that sends share: its rooms, its journal and the outbox of each other server, each under a lock of its own,
+/// and a board on which any thread reads how much was delivered, and waits for nobody. A room's lock is taken before the journal's, and no
+/// other two are taken together.
+///
+/// Contracts see the listed servers, the place of the own one among them, its name, and the ids of the rooms.
+#[derive(Drop)]
+pub struct Hub<N: Naming, K: Keys + Drop> {
+    pub(crate) list: List,
+    pub(crate) own: ServerIndex,
+    pub(crate) keys: K,
+    pub(crate) epoch: u64,
+    pub(crate) rooms: Rooms,
+    pub(crate) journal: Mutex<SendingJournal<N>>,
+    pub(crate) outboxes: Vec<Mutex<SeatedOutbox<N>>>,
+    pub(crate) board: Board,
+}
+
+impl<N: Naming, K: Keys + Drop> Model for Hub<N, K> {
+    ghost use Rattle.std.specs.Prelude.{◌≡◌, ◌<◌, length};
+    ghost use Rattle.fed_hub.specs.Hub.{HubShape};
+
+    ghost Value = { HubShape };
+
+    ghost view = { λ h. record { list = h.list; own = h.own; name = K.own_name h.keys; rooms = h.rooms } };
+
+    ghost invariant = { λ h. (length h.list ≡ length N.wires) × (h.own ≡ N.own) × (h.own < length h.list)
+        × (h.board.id ≡ N.board) × (length h.outboxes.items ≡ length N.wires) };
+}
+
+impl<N: Naming, K: Keys + Drop> Hub<N, K> {
+    /// How many events for a destination were delivered, by one look at the board. It waits for nobody and takes no memory.
+    pub fn delivered(&self, seat: &mut Seat<N>, dest: ServerIndex) -> u64
+        requires { dest < word_count N.board }
+        ensures looked { seat.new ≡ with_load seat.old dest result }
+        ensures seen { slice_index seat.new.seen dest ≡ result }
+        ensures later { slice_index seat.old.seen dest ≤ result }
+    {
+        self.board.load(&mut seat.seat, dest.place())
+    }
+}

@@ -1,0 +1,220 @@
+// What the thread that sends to one destination does, turn after turn.
+ghost use Rattle.std.specs.Prelude.{◌≡◌, ◌≤◌, ◌<◌, length, IfOk};
+ghost use Rattle.fed_outbox.specs.Outbox.{cut};
+ghost use Rattle.fed_exchange.specs.Messages.{asked_of, bytes_sent};
+ghost use Rattle.fed_hub.specs.Held.{GoesOn};
+ghost use Rattle.fed_hub.specs.Sending.{IsNext};
+
+use crate::carrier::{Carrier, CarrierFault};
+use crate::collected::Collected;
+use crate::gate::Gate;
+use crate::hub::Hub;
+use crate::tokens::SenderToken;
+use fed_dest::ServerIndex;
+use fed_event::Keys;
+use fed_exchange::{request_bytes, status_in};
+use fed_hub_state::{Naming, SeatedOutbox, sections};
+use fed_json::NoMemory;
+use fed_outbox::MAX_PDUS;
+use std::alloc::Global;
+use std::sync::Wait;
+
+/// How far a thread that sends has come.
+#[derive(Clone, Copy, Debug, PartialEq, Eq)]
+pub enum Ran {
+    /// The outbox was closed, and all that it accepted is settled.
+    Drained,
+    /// All turns were made.
+    TurnsSpent,
+    /// Memory ran out. A parcel in hand stays in the token, and the call may be made again.
+    Memory,
+}
+
+// What is to be done for a destination, by its outbox.
+#[derive(Drop)]
+enum Act {
+    /// Nothing more: it has ended.
+    Drain,
+    /// The unanswered transaction, of this number, is to be brought by this request.
+    Exchange(u64, Vec<u8>),
+    /// The unanswered transaction is due again at this moment.
+    Pause(u64),
+    /// Nothing is unanswered, and nothing waits.
+    Idle,
+}
+
+// What a turn came to.
+enum Turn {
+    Made(Next),
+    Last(Ran),
+}
+
+// What the next turn is to do: collect, at most so many parcels before it acts, or act.
+#[derive(Clone, Copy)]
+enum Next {
+    Collect(usize),
+    Act,
+}
+
+impl<N: Naming, K: Keys + Drop> Hub<N, K> {
+    /// Delivers to the token's destination, in at most so many turns: moves what comes over its wire into its outbox, makes transactions of it,
+    /// has each brought by the carrier until it is answered with 200, and settles it (Server-Server API, "Transactions"). A turn is one
+    /// collect, one exchange or one pause. A carrier that fails, and a reply that can't be read, count as a failure, after which the
+    /// transaction is due again later. No lock is held while the carrier or the gate is at work.
+    pub fn run_sender<R: Wait, C: Carrier, G: Gate>(
+        &self,
+        rt: &R,
+        alloc: Global,
+        token: &mut SenderToken<N>,
+        carrier: &mut C,
+        gate: &mut G,
+        turns: u64,
+    ) -> Ran
+        ensures goes_on { GoesOn token.old token.new }
+        ensures faults { C.faults carrier.old ≤ C.faults carrier.new }
+    {
+        let mut next = Next::Collect(MAX_PDUS);
+        for _ in 0..turns {
+            let turn = match next {
+                Next::Collect(most) => self.collect_turn(rt, token, most),
+                Next::Act => self.act(rt, alloc, token, carrier, gate),
+            };
+            match turn {
+                Turn::Made(then) => next = then,
+                Turn::Last(ran) => return ran,
+            }
+        }
+        Ran::TurnsSpent
+    }
+
+    // One collect that does not wait.
+    fn collect_turn<R: Wait>(&self, rt: &R, token: &mut SenderToken<N>, most: usize) -> Turn
+        ensures { GoesOn token.old token.new }
+    {
+        match self.collect(rt, token, false) {
+            Collected::Moved if most > 1 => Turn::Made(Next::Collect(most - 1)),
+            Collected::Moved | Collected::Nothing | Collected::Closed => Turn::Made(Next::Act),
+            Collected::Memory => Turn::Last(Ran::Memory),
+        }
+    }
+
+    // One exchange, one pause, or, where there is nothing to do, one collect that waits.
+    fn act<R: Wait, C: Carrier, G: Gate>(
+        &self,
+        rt: &R,
+        alloc: Global,
+        token: &mut SenderToken<N>,
+        carrier: &mut C,
+        gate: &mut G,
+    ) -> Turn
+        ensures goes_on { GoesOn token.old token.new }
+        ensures faults { C.faults carrier.old ≤ C.faults carrier.new }
+    {
+        let now = gate.now();
+        let Ok(act) = self.next_act(rt, alloc, token.dest, now) else {
+            return Turn::Last(Ran::Memory);
+        };
+        match act {
+            Act::Drain => Turn::Last(Ran::Drained),
+            Act::Exchange(number, request) => {
+                let told = self.exchange(rt, alloc, token.dest, carrier, gate, number, &request);
+                match told {
+                    Ok(()) => Turn::Made(Next::Collect(MAX_PDUS)),
+                    Err(NoMemory) => Turn::Last(Ran::Memory),
+                }
+            }
+            Act::Pause(until) => {
+                gate.pause(until);
+                Turn::Made(Next::Collect(MAX_PDUS))
+            }
+            Act::Idle => match self.collect(rt, token, true) {
+                Collected::Moved => Turn::Made(Next::Collect(MAX_PDUS)),
+                Collected::Nothing | Collected::Closed => Turn::Made(Next::Act),
+                Collected::Memory => Turn::Last(Ran::Memory),
+            },
+        }
+    }
+
+    // What is to be done for a destination.
+    fn next_act<R: Wait>(
+        &self,
+        rt: &R,
+        alloc: Global,
+        dest: ServerIndex,
+        now: u64,
+    ) -> Result<Act, NoMemory>
+        requires dest { dest < length N.wires }
+        requires now { now ≤ 9007199254740991 }
+    {
+        let outbox = &self.outboxes[dest.place()];
+        let name = self.list.name(dest);
+        act_of(
+            alloc,
+            &mut outbox.lock(rt),
+            &self.keys,
+            self.epoch,
+            name,
+            now,
+        )
+    }
+
+    // Brings the request of a transaction to its destination by one exchange, and enters what came of it.
+    fn exchange<R: Wait, C: Carrier, G: Gate>(
+        &self,
+        rt: &R,
+        alloc: Global,
+        dest: ServerIndex,
+        carrier: &mut C,
+        gate: &mut G,
+        number: u64,
+        request: &[u8],
+    ) -> Result<(), NoMemory>
+        requires dest { dest < length N.wires }
+        ensures faults { C.faults carrier.old ≤ C.faults carrier.new }
+    {
+        gate.before(dest, number);
+        let outbox = &self.outboxes[dest.place()];
+        match carrier.exchange(alloc, dest, request) {
+            Ok(reply) => {
+                let status = status_in(alloc, &reply)?;
+                let now = gate.now();
+                sections::settle(&mut outbox.lock(rt), &self.board, number, status, now);
+                Ok(())
+            }
+            Err(CarrierFault::Failed) => {
+                let now = gate.now();
+                sections::failed(&mut outbox.lock(rt), now);
+                Ok(())
+            }
+            Err(CarrierFault::Memory) => Err(NoMemory),
+        }
+    }
+}
+
+// What is to be done, by the outbox after a cut. A request is made of a transaction that is due, for the server of this name.
+fn act_of<N: Naming, K: Keys>(
+    alloc: Global,
+    outbox: &mut SeatedOutbox<N>,
+    keys: &K,
+    epoch: u64,
+    dest: &str,
+    now: u64,
+) -> Result<Act, NoMemory>
+    requires { now ≤ 9007199254740991 }
+    ensures cut { outbox.new ≡ cut outbox.old now }
+    ensures next { IfOk result (λ act. IsNext (λ t. bytes_sent (asked_of (K.own_name keys.now) dest.now epoch t) (K.own_key keys.now) (K.own_signature keys.now)) outbox.new now act) }
+{
+    sections::cut(outbox, now);
+    let outbox = outbox.outbox();
+    if outbox.ended() {
+        return Ok(Act::Drain);
+    }
+    let Some(transaction) = outbox.unanswered() else {
+        return Ok(Act::Idle);
+    };
+    if !outbox.due(now) {
+        return Ok(Act::Pause(outbox.due_at()));
+    }
+    let request = request_bytes(alloc, &transaction, epoch, keys, dest)?;
+    Ok(Act::Exchange(transaction.number, request))
+}
