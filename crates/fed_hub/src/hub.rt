@@ -1,6 +1,5 @@
 // What the threads of a server share.
-ghost use Rattle.std.specs.Prelude.{◌≡◌, ◌<◌, ◌≤◌, slice_index};
-ghost use Rattle.fed_wires.specs.Board.{word_count};
+ghost use Rattle.std.specs.Prelude.{◌≡◌, ◌<◌, ◌≤◌, length, slice_index};
 ghost use Rattle.fed_wires.specs.Seat.{with_load};
 
 use crate::rooms::Rooms;
@@ -31,6 +30,7 @@ pub struct Hub<N: Naming, K: Keys + Drop> {
 
 impl<N: Naming, K: Keys + Drop> Model for Hub<N, K> {
     ghost use Rattle.std.specs.Prelude.{◌≡◌, ◌<◌, length};
+    ghost use Rattle.fed_wires.specs.Board.{word_count};
     ghost use Rattle.fed_hub.specs.Hub.{HubShape};
 
     ghost Value = { HubShape };
@@ -38,13 +38,13 @@ impl<N: Naming, K: Keys + Drop> Model for Hub<N, K> {
     ghost view = { λ h. record { list = h.list; own = h.own; name = K.own_name h.keys; rooms = h.rooms } };
 
     ghost invariant = { λ h. (length h.list ≡ length N.wires) × (h.own ≡ N.own) × (h.own < length h.list)
-        × (h.board.id ≡ N.board) × (length h.outboxes.items ≡ length N.wires) };
+        × (h.board.id ≡ N.board) × (word_count N.board ≡ length N.wires) × (length h.outboxes.items ≡ length N.wires) };
 }
 
 impl<N: Naming, K: Keys + Drop> Hub<N, K> {
     /// How many events for a destination were delivered, by one look at the board. It waits for nobody and takes no memory.
     pub fn delivered(&self, seat: &mut Seat<N>, dest: ServerIndex) -> u64
-        requires { dest < word_count N.board }
+        requires { dest < length N.wires }
         ensures looked { seat.new ≡ with_load seat.old dest result }
         ensures seen { slice_index seat.new.seen dest ≡ result }
         ensures later { slice_index seat.old.seen dest ≤ result }
