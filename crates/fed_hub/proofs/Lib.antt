@@ -7,3 +7,4 @@ pub mod Going
 pub mod Loaded
 pub mod Sendings
 pub mod Made
+pub mod Crossing

@@ -1,5 +1,5 @@
 -- How many events a room can store after one that came.
-use Rattle.std.proofs.Common.{arith, ◌≡◌, ℕ, zero, suc, ◌+◌, ◌≤◌, ◌<◌, List, ◌∷◌, [], ◌++◌, length, length-append, replicate, Option, Some, None, Result, Ok, Err, IfOk, IfErr, IfSome, refl, sym, ap, ◌∙◌, subst}
+use Rattle.std.proofs.Common.{arith, ◌≡◌, ℕ, zero, suc, ◌+◌, ◌≤◌, ◌<◌, ◌∷◌, [], ◌++◌, length, length-append, replicate, Option, Some, None, Result, Ok, Err, IfOk, IfErr, IfSome, refl, sym, ap, ◌∙◌, subst}
 use Rattle.fed_room_contract.specs.declared.applying.Applied.{Applied}
 use Rattle.fed_room_contract.specs.declared.applying.Stopped.{Stopped}
 use Rattle.fed_room_contract.specs.declared.applying.Stopped.TheVariants.{NotReceived, Received}
@@ -9,7 +9,7 @@ use Rattle.fed_room_contract.specs.declared.receipt.Receipt.{Receipt}
 use Rattle.fed_room_contract.specs.declared.receipt.Receipt.TheVariants as receipt
 use Rattle.fed_room_contract.specs.declared.graph.Stored.{Stored}
 use Rattle.fed_room_contract.specs.Applying.{received, IsApplied, IsStoppedAfter, IfNotReceived, IfReceived}
-use Rattle.fed_room_contract.specs.Room.{Rules, RoomState, event_id, first_ready, with_ready, advanced, after_receipt, receipt_of, without}
+use Rattle.fed_room_contract.specs.Room.{Rules, RoomState, event_id, first_ready, with_ready, advanced, after_receipt, receipt_of}
 use Rattle.fed_room_contract.specs.Runs.{room_after, AllMayBeGiven}
 use Rattle.fed_room_contract.proofs.Rooms.{fewer, advanced_waits_less}
 use Rattle.fed_room.specs.Room.{room_of, room_rules}

@@ -4,3 +4,4 @@ pub mod Closed
 pub mod Kept
 pub mod Shuts
 pub mod Applied
+pub mod Crossing

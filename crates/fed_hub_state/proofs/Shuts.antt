@@ -1,5 +1,5 @@
 -- The outboxes for all other servers are closed, one after another.
-use Rattle.std.proofs.Common.{arith, ◌≡◌, ◌≢◌, ◌⊎◌, ℕ, inl, inr, zero, suc, ◌+◌, ◌-◌, ◌<◌, ◌≤◌, ◌^◌, Bool, true, false, not, ◌&&◌, ◌||◌, ◌==◌, cond, List, [], ◌∷◌, ◌++◌, length, filter, set, Option, Some, Result, Ok, Err, refl, sym, ap, ◌∙◌, subst, append-nil, length-append, length-set, true≢false, zero-add, add_assoc}
+use Rattle.std.proofs.Common.{arith, ◌≡◌, ◌≢◌, ◌⊎◌, ℕ, inl, inr, zero, suc, ◌+◌, ◌-◌, ◌<◌, ◌≤◌, ◌^◌, Bool, true, false, not, ◌&&◌, ◌||◌, ◌==◌, cond, List, [], ◌∷◌, ◌++◌, length, filter, set, Some, Result, Ok, Err, refl, sym, ap, ◌∙◌, subst, append-nil, length-append, length-set, true≢false, zero-add, add_assoc}
 use Rattle.std.specs.List.{slice_get, range_with_len}
 use Rattle.std.specs.Result.{IsErr, IsErrAnd}
 use Rattle.std.proofs.lemmas.Bool.{cases_eq, ne_eqb, eq-eqb, leb-true, le-leb}

@@ -1,6 +1,5 @@
 -- A journal that is being shut down.
 use Rattle.std.specs.Prelude.{◌≡◌, ◌≢◌, ◌<◌, ◌≤◌, ◌+◌, ℕ, true, false, List, length, Some}
-use Rattle.fed_journal.specs.declared.entry.Entry.{Entry}
 use Rattle.fed_journal.specs.declared.parcel.Parcel.{Parcel}
 use Rattle.fed_journal.specs.Journal.{JournalState, is_closed, next_place}
 use Rattle.fed_journal.specs.Place.{PlaceValue}

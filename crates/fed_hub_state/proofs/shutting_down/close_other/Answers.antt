@@ -1,6 +1,6 @@
-use Rattle.std.proofs.Common.{◌≡◌, ◌≢◌, ◌==◌, ◌&&◌, ◌∙◌, ℕ, Bool, true, false, not, refl, sym, ap}
+use Rattle.std.proofs.Common.{◌≡◌, ◌==◌, ◌&&◌, ◌∙◌, Bool, true, false, not, refl, sym, ap}
 use Rattle.fed_journal.specs.Journal.{is_closed}
-use Rattle.fed_hub_state.specs.ShuttingDownParts.{ClosesOther, left, closed}
+use Rattle.fed_hub_state.specs.ShuttingDownParts.{left, closed}
 use Rattle.fed_hub_state.proofs.Spreads.{none_placed, open_closes}
 use Rattle.fed_hub_state.proofs.shutting_down.close_other.Goals as goal
 

@@ -1,4 +1,4 @@
-use Rattle.std.proofs.Common.{arith, ◌≡◌, length, get_or, refl, sym, ap, ◌∙◌, subst}
+use Rattle.std.proofs.Common.{arith, length, get_or, refl, sym, ap, ◌∙◌, subst}
 use Rattle.fed_journal.specs.Journal.{placed}
 use Rattle.fed_hub_state.specs.ShuttingDown.{is_other_open}
 use Rattle.fed_hub_state.specs.ShuttingDownParts.{ClosesOther, IsBeingShut}

@@ -1,5 +1,4 @@
-use Rattle.std.proofs.Common.{◌≡◌, ◌++◌, List, refl, sym, ap, ◌∙◌, subst}
-use Rattle.fed_room_contract.specs.declared.input.Input.{Input}
+use Rattle.std.proofs.Common.{◌≡◌, ◌++◌, refl, sym, ap, ◌∙◌, subst}
 use Rattle.fed_room_contract.specs.Room.{RoomState, empty_room}
 use Rattle.fed_room_contract.specs.Runs.{room_after, AllMayBeGiven}
 use Rattle.fed_room_contract.proofs.Rooms.{room_after-++}
