@@ -21,24 +21,42 @@ use Rattle.fed_hub.specs.contracts.hub.Hub.TheInside as hub_inside
 
 pub sender_token_send : (N : RattleType) (names : naming.Ghosts N.Denot) → IsSend (token.the_row N names)
 sender_token_send N names = view_send _ _ _ _ _ (declared_send (token_inside.the_type N names) (
-    index.the_send,
-    (receive_end_send,
-    (search (parcel_send, sendable) depth 60 fits 20000,
-    (search sendable depth 60,
-    (search sendable depth 60, tt))))
-  ))
+  index.the_send,
+  (
+    receive_end_send,
+    (
+      search (parcel_send, sendable) depth 60 fits 20000,
+      (
+        search sendable depth 60,
+        (search sendable depth 60, tt),
+      ),
+    ),
+  ),
+))
 
 rooms_sync : IsSync rooms.the_row
 rooms_sync = view_sync _ _ _ _ _ (declared_sync rooms_inside.the_type (search (kept_room_send, mutex.the_sync, maps.crosses, crossing.crosses, sendable) depth 60 fits 20000, tt))
 
 pub hub_sync : (N K : RattleType) (names : naming.Ghosts N.Denot) (signs : keys.Ghosts K.Denot) → IsSync K → IsSync (hub.the_row N K names signs)
 hub_sync N K names signs k = view_sync _ _ _ _ _ (declared_sync (hub_inside.the_type N K names signs) (
-    list.the_sync,
-    (index.the_sync,
-    (k,
-    (search sendable depth 60,
-    (rooms_sync,
-    (search (sending_journal_send, mutex.the_sync, crossing.crosses, sendable) depth 60 fits 20000,
-    (search (seated_outbox_send, mutex.the_sync, vec.the_sync, crossing.crosses, sendable) depth 60 fits 20000,
-    (board.the_sync, tt)))))))
-  ))
+  list.the_sync,
+  (
+    index.the_sync,
+    (
+      k,
+      (
+        search sendable depth 60,
+        (
+          rooms_sync,
+          (
+            search (sending_journal_send, mutex.the_sync, crossing.crosses, sendable) depth 60 fits 20000,
+            (
+              search (seated_outbox_send, mutex.the_sync, vec.the_sync, crossing.crosses, sendable) depth 60 fits 20000,
+              (board.the_sync, tt),
+            ),
+          ),
+        ),
+      ),
+    ),
+  ),
+))

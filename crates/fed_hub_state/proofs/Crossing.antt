@@ -34,9 +34,9 @@ declared_sync T s = recorded_sync (Struct (shape T)) T.D T.to T.to_one (struct_s
 
 pub parcel_send : IsSend parcel.the_row
 parcel_send = first_of (
-    search (maps.crosses, crossing.crosses, TheKnot.crosses, sendable) depth 60 fits 20000,
-    search (maps.crosses, crossing.crosses, TheKnot.crosses_both, sendable) depth 60 fits 20000,
-  )
+  search (maps.crosses, crossing.crosses, TheKnot.crosses, sendable) depth 60 fits 20000,
+  search (maps.crosses, crossing.crosses, TheKnot.crosses_both, sendable) depth 60 fits 20000,
+)
 
 pub receive_end_send : IsSend (receiver.the_row parcel.the_row in_place.the_row numbers.ghosts)
 receive_end_send = search (receive.the_send, parcel_send)
@@ -46,30 +46,36 @@ send_end_send = search (send.the_send, parcel_send)
 
 journal_send : IsSend journal.the_row
 journal_send = first_of (
-    search (maps.crosses, crossing.crosses, TheKnot.crosses, sendable) depth 60 fits 20000,
-    search (maps.crosses, crossing.crosses, TheKnot.crosses_both, sendable) depth 60 fits 20000,
-  )
+  search (maps.crosses, crossing.crosses, TheKnot.crosses, sendable) depth 60 fits 20000,
+  search (maps.crosses, crossing.crosses, TheKnot.crosses_both, sendable) depth 60 fits 20000,
+)
 
 outbox_send : IsSend outbox.the_row
 outbox_send = first_of (
-    search (maps.crosses, crossing.crosses, TheKnot.crosses, sendable) depth 60 fits 20000,
-    search (maps.crosses, crossing.crosses, TheKnot.crosses_both, sendable) depth 60 fits 20000,
-  )
+  search (maps.crosses, crossing.crosses, TheKnot.crosses, sendable) depth 60 fits 20000,
+  search (maps.crosses, crossing.crosses, TheKnot.crosses_both, sendable) depth 60 fits 20000,
+)
 
 pub kept_room_send : IsSend kept_room.the_row
 kept_room_send = first_of (
-    search (maps.crosses, crossing.crosses, TheKnot.crosses, sendable) depth 60 fits 20000,
-    search (maps.crosses, crossing.crosses, TheKnot.crosses_both, sendable) depth 60 fits 20000,
-  )
+  search (maps.crosses, crossing.crosses, TheKnot.crosses, sendable) depth 60 fits 20000,
+  search (maps.crosses, crossing.crosses, TheKnot.crosses_both, sendable) depth 60 fits 20000,
+)
 
 pub seated_outbox_send : (N : RattleType) (names : naming.Ghosts N.Denot) → IsSend (seated.the_row N names)
 seated_outbox_send N names = view_send _ _ _ _ _ (declared_send (seated_inside.the_type N names) (outbox_send, (search (seat.the_send, sendable) depth 60, (search sendable depth 60, tt))))
 
 pub sending_journal_send : (N : RattleType) (names : naming.Ghosts N.Denot) → IsSend (sending.the_row N names)
 sending_journal_send N names = view_send _ _ _ _ _ (declared_send (sending_inside.the_type N names) (
-    journal_send,
-    (search (send_end_send, vec.the_send, crossing.crosses, sendable) depth 60 fits 20000,
-    (search (book.the_send, crossing.crosses, sendable) depth 60 fits 20000,
-    (search (book.the_send, crossing.crosses, sendable) depth 60 fits 20000,
-    (search sendable, tt))))
-  ))
+  journal_send,
+  (
+    search (send_end_send, vec.the_send, crossing.crosses, sendable) depth 60 fits 20000,
+    (
+      search (book.the_send, crossing.crosses, sendable) depth 60 fits 20000,
+      (
+        search (book.the_send, crossing.crosses, sendable) depth 60 fits 20000,
+        (search sendable, tt),
+      ),
+    ),
+  ),
+))
