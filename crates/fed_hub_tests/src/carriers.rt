@@ -1,0 +1,65 @@
+// A carrier and a gate within a test.
+ghost use Rattle.std.specs.Prelude.{◌≡◌, ◌≤◌};
+
+use fed_dest::ServerIndex;
+use fed_hub::{Carrier, CarrierFault, FaultCount, Gate};
+use std::alloc::Global;
+
+const OK: &[u8] = b"HTTP/1.1 200 OK\r\nContent-Length: 12\r\n\r\n{\"pdus\":{}}\n";
+
+/// Fails first, then answers by what is no reply, by 500, and from then on by 200.
+#[derive(Drop)]
+pub(crate) struct Failing {
+    pub(crate) exchanges: u64,
+    pub(crate) faults: FaultCount,
+}
+
+impl Carrier for Failing {
+    ghost faults = { λ c. c.faults.count };
+
+    fn exchange(
+        &mut self,
+        alloc: Global,
+        _dest: ServerIndex,
+        _request: &[u8],
+    ) -> Result<Vec<u8>, CarrierFault> {
+        self.exchanges = self.exchanges.saturating_add(1);
+        let reply = match self.exchanges {
+            1 => return self.faults.fail(alloc, CarrierFault::Failed),
+            2 => b"HTTP/1.1 200 OK\r\n".as_slice(),
+            3 => b"HTTP/1.1 500 Internal Server Error\r\nContent-Length: 2\r\n\r\n{}".as_slice(),
+            _ => OK,
+        };
+        match Vec::from_slice(alloc, reply) {
+            Ok(reply) => Ok(reply),
+            Err(_) => self.faults.fail(alloc, CarrierFault::Memory),
+        }
+    }
+}
+
+/// A clock that stands, but for pauses, which it passes at once.
+#[derive(Drop)]
+pub(crate) struct Clock {
+    pub(crate) moment: u64,
+    ghost within: { moment ≤ 9007199254740991 },
+}
+
+impl Clock {
+    pub(crate) fn new() -> Clock {
+        Clock { moment: 0 }
+    }
+}
+
+impl Gate for Clock {
+    ghost moment = { λ c. c.moment };
+
+    fn now(&mut self) -> u64 {
+        self.moment
+    }
+
+    fn before(&mut self, _dest: ServerIndex, _n: u64) {}
+
+    fn pause(&mut self, until: u64) {
+        self.moment = until.min(9_007_199_254_740_991);
+    }
+}
