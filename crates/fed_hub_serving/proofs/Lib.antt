@@ -3,4 +3,5 @@ pub mod Spreads
 pub mod Sent
 pub mod Wiring
 pub mod Takes
-pub mod Served
+pub mod KeptStates
+pub mod Replies

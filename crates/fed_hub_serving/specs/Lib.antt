@@ -8,3 +8,6 @@ pub mod WiresParts
 pub mod Spreading
 pub mod Serving
 pub mod Sections
+pub mod Answered
+pub mod Served
+pub mod ServedParts

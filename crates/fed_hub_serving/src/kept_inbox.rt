@@ -111,7 +111,8 @@ impl<N: ServingNaming, S: ReplyStore> KeptInbox<N, S> {
     /// over the wires to their rooms. Where memory runs out it answers 500, and all is as it was.
     pub(crate) fn take<R: Wait>(&mut self, rt: &R, alloc: Global, judged: JudgedRequest) -> Reply
         requires { IsJudged N.checks N.receiver N.known judged }
-        ensures { RequestIsTaken N.checks N.known judged.request self.old result self.new }
+        ensures taken { RequestIsTaken N.checks N.known judged.request self.old result self.new }
+        ensures history { IsKeptFrom N.checks N.beginning self.old }
     {
         match self.serve(rt, alloc, judged) {
             Ok(reply) => reply,
@@ -129,6 +130,7 @@ impl<N: ServingNaming, S: ReplyStore> KeptInbox<N, S> {
         requires { IsJudged N.checks N.receiver N.known judged }
         ensures served { IfOk result (λ reply. IsServed N.checks N.known judged.request self.old reply self.new) }
         ensures err { OnErr result (self.new ≡ self.old) }
+        ensures history { IsKeptFrom N.checks N.beginning self.old }
     {
         let JudgedRequest {
             request,

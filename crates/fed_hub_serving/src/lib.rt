@@ -1,5 +1,6 @@
 //! What the threads of a server that serves share beside what `fed_hub_state` has: the inbox with the history of the requests that it answered
-//! and the ends that send of the rooms' wires, under one lock; and the section that answers a request.
+//! and the ends that send of the rooms' wires, under one lock; the section that answers a request; and the way of a request from a reader to
+//! its reply on a writer.
 //!
 //! - `naming`: `ServingNaming`, the names by which contracts know the rooms, their wires, and what the server's inbox began with
 //! - `kept_inbox`: `KeptInbox`, the inbox, its history and the wires
@@ -10,8 +11,12 @@
 //! - `bound`: events on their way to their rooms
 //! - `answering`: what an inbox answers to a request that was judged
 //! - `sections`: what a thread does while it holds the lock
+//! - `serving`: `serve_one`, which reads a request, answers it and writes the reply, and `ServingDesk`, what the threads that do share
+//! - `access`: `InboxAccess`, the way to the inbox, as a `LockedInbox` is
+//! - `serve_token`: `ServeToken`, the requests that such a thread answered, each an `AnsweredRequest`; `served`: `Served`, what became of one
 #![tactic(auto)]
 
+mod access;
 mod answering;
 mod bound;
 mod end_place;
@@ -22,10 +27,20 @@ mod naming;
 mod room_wire;
 mod room_wires;
 pub mod sections;
+mod serve_token;
+mod served;
+mod serving;
 
+pub use access::{InboxAccess, LockedInbox};
 pub use end_place::EndPlace;
 pub use judged_request::JudgedRequest;
 pub use kept_inbox::KeptInbox;
 pub use kept_point::KeptPoint;
 pub use naming::ServingNaming;
 pub use room_wire::EndedWire;
+pub use serve_token::{AnsweredRequest, ServeToken};
+pub use served::Served;
+pub use serving::{ServingDesk, serve_one};
+
+#[cfg(test)]
+mod tests;

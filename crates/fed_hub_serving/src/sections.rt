@@ -2,6 +2,7 @@
 //! the definition of the same step at a server of one thread.
 ghost use Rattle.std.specs.Prelude.{◌≡◌};
 ghost use Rattle.fed_hub_serving.specs.JudgedRequest.{IsJudged};
+ghost use Rattle.fed_hub_serving.specs.Serving.{IsKeptFrom};
 ghost use Rattle.fed_hub_serving.specs.Sections.{RequestIsTaken};
 
 use crate::judged_request::JudgedRequest;
@@ -22,7 +23,8 @@ pub fn take<N: ServingNaming, S: ReplyStore, R: Wait>(
     judged: JudgedRequest,
 ) -> Reply
     requires { IsJudged N.checks N.receiver N.known judged }
-    ensures { RequestIsTaken N.checks N.known judged.request inbox.old result inbox.new }
+    ensures taken { RequestIsTaken N.checks N.known judged.request inbox.old result inbox.new }
+    ensures history { IsKeptFrom N.checks N.beginning inbox.old }
 {
     inbox.take(rt, alloc, judged)
 }

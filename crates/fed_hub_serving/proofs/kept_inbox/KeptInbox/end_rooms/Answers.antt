@@ -4,7 +4,7 @@ use Rattle.fed_hub_serving.specs.Brought.{end_place}
 use Rattle.fed_hub_serving.specs.Serving.{ServingState, ended_in, with_rooms_ended}
 use Rattle.fed_hub_serving.specs.Wires.{WiresState, AreSent, all_ended}
 use Rattle.fed_hub_serving.proofs.Sent.{all_end}
-use Rattle.fed_hub_serving.proofs.Served.{places_at_end}
+use Rattle.fed_hub_serving.proofs.KeptStates.{places_at_end}
 use Rattle.fed_hub_serving.proofs.kept_inbox.KeptInbox.end_rooms.Goals as goal
 
 pub invariant_of-self : goal.invariant_of-self

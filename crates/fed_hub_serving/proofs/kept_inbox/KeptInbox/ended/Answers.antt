@@ -1,6 +1,6 @@
 use Rattle.std.proofs.Common.{◌≡◌, true, subst}
 use Rattle.fed_hub_serving.specs.Serving.{ServingState, AreLeft}
-use Rattle.fed_hub_serving.proofs.Served.{are_left}
+use Rattle.fed_hub_serving.proofs.KeptStates.{are_left}
 use Rattle.fed_hub_serving.proofs.kept_inbox.KeptInbox.ended.Goals as goal
 
 pub returns : goal.returns

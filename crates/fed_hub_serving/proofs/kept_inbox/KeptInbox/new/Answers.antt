@@ -5,7 +5,7 @@ use Rattle.fed_hub_serving.specs.declared.end_place.EndPlace.{EndPlace}
 use Rattle.fed_hub_serving.specs.Serving.{ended_in, IsServing}
 use Rattle.fed_hub_serving.specs.Wires.{WiresState, AreSent}
 use Rattle.fed_hub_serving.proofs.Sent.{none_sent}
-use Rattle.fed_hub_serving.proofs.Served.{none_ended}
+use Rattle.fed_hub_serving.proofs.KeptStates.{none_ended}
 use Rattle.fed_hub_serving.proofs.kept_inbox.KeptInbox.new.Goals as goal
 
 pub invariant_of-result : goal.invariant_of-result

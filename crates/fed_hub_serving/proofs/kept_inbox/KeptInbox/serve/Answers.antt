@@ -8,7 +8,7 @@ use Rattle.fed_hub_serving.specs.JudgedRequest.{fresh_of}
 use Rattle.fed_hub_serving.specs.Sections.{IsServed}
 use Rattle.fed_hub_serving.specs.Serving.{ServingState, ended_in, IsServing}
 use Rattle.fed_hub_serving.specs.Spreading.{SpreadAll}
-use Rattle.fed_hub_serving.proofs.Served.{goes_as_bound, goes_on_serving, is_served}
+use Rattle.fed_hub_serving.proofs.KeptStates.{goes_as_bound, goes_on_serving, is_served}
 use Rattle.fed_hub_serving.proofs.Takes.{answers_request, still_of_server}
 use Rattle.fed_hub_serving.proofs.kept_inbox.KeptInbox.serve.Goals as goal
 

@@ -7,11 +7,11 @@ use Rattle.fed_hub_serving.specs.Serving.{ServingState}
 use Rattle.fed_hub_serving.proofs.Takes.{takes, no_memory_is_told}
 use Rattle.fed_hub_serving.proofs.kept_inbox.KeptInbox.take.Goals as goal
 
-pub returns-in-Ok : goal.returns-in-Ok
-returns-in-Ok g c = served c.serve.new.self c.in-Ok.ensures.served
+pub returns-in-Ok-clause-taken : goal.returns-in-Ok-clause-taken
+returns-in-Ok-clause-taken g c = served c.serve.new.self c.in-Ok.ensures.served
 
-pub returns-in-Err : goal.returns-in-Err
-returns-in-Err g c =
+pub returns-in-Err-clause-taken : goal.returns-in-Err-clause-taken
+returns-in-Err-clause-taken g c =
     let N = g.N.ServingNaming in
     let old = c.args.self.now in
     let request = c.args.judged.request in
