@@ -5,7 +5,7 @@ use Rattle.fed_http.specs.Head.{Head, IsHeadOf, message_of}
 use Rattle.fed_http.specs.Head.{request, reply}
 use Rattle.fed_http.specs.Message.{RequestValue, Answer}
 use Rattle.fed_http.specs.Faults.{IsBadHead, IsTooLarge, IsBadLength, IsBadChunk}
-use Rattle.fed_http.specs.Text.{IsText, HasNoText}
+use Rattle.fed_http.specs.Text.{IsText, BeginsWith, HasNoText}
 use Rattle.fed_http.specs.Reader.{Reading, StandsFor, Gives, Waits, Fails}
 use Rattle.fed_http.specs.declared.fault.HttpFault.{HttpFault}
 use Rattle.fed_http.specs.declared.fault.HttpFault.TheVariants as fault
@@ -13,7 +13,6 @@ use Rattle.fed_http.specs.declared.message.Kind.{Kind}
 use Rattle.fed_http.specs.declared.message.Kind.TheVariants.{Requests, Replies}
 use Rattle.fed_http.specs.declared.message.Message.{Message}
 use Rattle.fed_http.specs.declared.message.Message.TheVariants as message
-use Rattle.fed_exchange.specs.Messages.{BeginsWith}
 
 pub given : (old : Reading) (bytes : List ℕ) (new : Reading) (found : Option Message) (used : ℕ) → IfSome found (λ m. Gives old [] bytes new m used) → IfSome found (λ m. BeginsWith old.kind bytes m)
 given old bytes new None used none = none

@@ -1,12 +1,12 @@
 -- The way of a transaction and of its answer, in bytes (Matrix, Server-Server API, "PUT /_matrix/federation/v1/send/{txnId}").
-use Rattle.std.specs.Prelude.{◌≡◌, ◌<◌, ◌≤◌, ◌^◌, ℕ, List, ◌++◌, length, codes, decimal, take, Option, Some, None, Ok}
+use Rattle.std.specs.Prelude.{◌≡◌, ◌<◌, ◌≤◌, ◌^◌, ℕ, List, ◌++◌, length, codes, decimal, Option, Some, None, Ok}
 use Rattle.fed_json.specs.CanonicalText.{canonical_text}
 use Rattle.fed_outbox.specs.Transaction.{TransactionValue}
 use Rattle.fed_txn.specs.Reading.{body_of}
 use Rattle.fed_txn.specs.Writing.{body_value, IsWithinLimits}
 use Rattle.fed_http.specs.Message.{RequestValue, Answer}
 use Rattle.fed_http.specs.XMatrixSigning.{SignableJson, request_of}
-use Rattle.fed_http.specs.Text.{IsText}
+use Rattle.fed_http.specs.Text.{BeginsWith}
 use Rattle.fed_http.specs.Writing.{request_bytes, reply_bytes}
 use Rattle.fed_http.specs.declared.message.Kind.{Kind}
 use Rattle.fed_http.specs.declared.message.Kind.TheVariants.{Requests, Replies}
@@ -36,10 +36,6 @@ pub record IsReadable (origin : List ℕ) (epoch : ℕ) (t : TransactionValue) :
   pub epoch_fits : epoch < 2 ^ 64
   pub number_fits : t.number < 2 ^ 64
   pub body : IsWithinLimits t → length origin ≤ 65536 → body_of (canonical_text (body_value origin t)) ≡ Ok (body_value origin t)
-
--- bytes begin with the text of a message
-abbrev pub BeginsWith : Kind → List ℕ → Message → Type 0
-BeginsWith kind bytes m = (used : ℕ) × IsText kind m (take used bytes)
 
 -- bytes begin with the text of a request
 abbrev pub IsRequestIn : List ℕ → RequestValue → Type 0

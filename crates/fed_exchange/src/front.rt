@@ -3,7 +3,7 @@ ghost use Rattle.std.specs.Prelude.{◌≡◌, ◌≢◌, [], None, IfOk, IfSome
 ghost use Rattle.fed_http.specs.Reader.{StandsFor};
 ghost use Rattle.fed_http.specs.Text.{HasNoText};
 ghost use Rattle.fed_http.specs.declared.fault.HttpFault.TheVariants.{Memory};
-ghost use Rattle.fed_exchange.specs.Messages.{BeginsWith};
+ghost use Rattle.fed_http.specs.Text.{BeginsWith};
 
 use fed_http::{HttpFault, Message, Reader};
 use fed_json::NoMemory;

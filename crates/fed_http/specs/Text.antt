@@ -1,5 +1,5 @@
 -- The bytes that a message is sent as (RFC 9112, section 2.1): its head, and its body as the head frames it.
-use Rattle.std.specs.Prelude.{◌≡◌, ℕ, ◌≤◌, List, ◌++◌, length, Some}
+use Rattle.std.specs.Prelude.{◌≡◌, ℕ, ◌≤◌, List, ◌++◌, length, take, Some}
 use Rattle.fed_http.specs.Limits.{max_body}
 use Rattle.fed_http.specs.Head.{Head, IsHeadOf, print_head, IsWithinLimits, IsFinal, head_framing, message_of}
 use Rattle.fed_http.specs.Body.{IsBodyText}
@@ -23,6 +23,10 @@ pub record IsText (kind : Kind) (m : Message) (text : List ℕ) : Type 0 where
   pub body_fits : length body ≤ max_body
   pub message_is : m ≡ message_of head body
   pub text_is : text ≡ print_head head ++ body_text
+
+-- bytes begin with the text of a message
+abbrev pub BeginsWith : Kind → List ℕ → Message → Type 0
+BeginsWith kind bytes m = (used : ℕ) × IsText kind m (take used bytes)
 
 -- the bytes of a request
 abbrev pub IsRequestText : RequestValue → List ℕ → Type 0

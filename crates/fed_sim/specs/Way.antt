@@ -1,10 +1,7 @@
 -- The way of parcels from the journal of a server to one destination.
 use Rattle.std.specs.Prelude.{◌≡◌, ℕ, List, [], ◌++◌, ◌∷◌, refl, Option, Some, None, option_map, length, map, if◌then◌else◌}
-use Rattle.std.specs.Coded.{Coded, code_by, coded×, coded_ℕ, coded_list, coded_option}
-use Rattle.serde_json.specs.Data.{Data}
-use Rattle.fed_json.specs.Code.{coded_data}
-use Rattle.fed_event.specs.Checked.{CheckedEvent, checked_code}
-use Rattle.fed_journal.specs.Place.{PlaceValue, place_code}
+use Rattle.std.specs.Coded.{Coded, code_by, coded×, coded_ℕ, coded_list}
+use Rattle.fed_journal.specs.Parcel.{parcel_code}
 use Rattle.fed_journal.specs.declared.parcel.Load.{Load}
 use Rattle.fed_journal.specs.declared.parcel.Load.TheVariants.{Event, Edu, End}
 use Rattle.fed_journal.specs.declared.parcel.Parcel.{Parcel}
@@ -51,30 +48,6 @@ abbrev pub cut_told : OutboxState → ℕ → Option Cut
 cut_told outbox now = option_map (λ (t : TransactionValue). record { number = t.number; pdus = length t.pdus; edus = length t.edus }) (transaction_cut outbox now)
 
 -- ---- how it is stored where a contract keeps one; nothing else is said of it
-
-abbrev pub LoadParts : Type 0
-LoadParts = Option CheckedEvent × Option Data
-
-abbrev pub load_parts : Load → LoadParts
-load_parts (Event event) = (Some event, None)
-load_parts (Edu edu) = (None, Some edu)
-load_parts End = (None, None)
-
-abbrev pub load_of : LoadParts → Load
-load_of (Some event, edu) = Event event
-load_of (None, Some edu) = Edu edu
-load_of (None, None) = End
-
-pub load_of-load_parts : (l : Load) → load_of (load_parts l) ≡ l
-load_of-load_parts (Event event) = refl
-load_of-load_parts (Edu edu) = refl
-load_of-load_parts End = refl
-
-abbrev pub load_code : Coded Load
-load_code = code_by LoadParts (coded× (coded_option checked_code) (coded_option coded_data)) load_parts load_of load_of-load_parts
-
-abbrev pub parcel_code : Coded Parcel
-parcel_code = code_by (PlaceValue × Load) (coded× place_code load_code) (λ p. (p.place, p.load)) (λ p. record { place = p.0; load = p.1 }) (λ _. refl)
 
 abbrev pub way_code : Coded Way
 way_code = code_by (List Parcel × OutboxState) (coded× (coded_list parcel_code) outbox_code) (λ l. (l.queue, l.outbox)) (λ p. record { queue = p.0; outbox = p.1 }) (λ _. refl)

@@ -5,7 +5,7 @@ use Rattle.std.specs.Io.KnownBytes.{Consumes, Keeps}
 use Rattle.std.proofs.KnownBytes.{Consumes-nil, Consumes-trans, Consumes-kept}
 use Rattle.std.proofs.lemmas.List.{length-take}
 use Rattle.std.proofs.Math.Seq.{take-append-add, take-append_seam}
-use Rattle.fed_http.specs.Text.{IsText}
+use Rattle.fed_http.specs.Text.{IsText, BeginsWith}
 use Rattle.fed_http.specs.Waiting.{IsWaiting}
 use Rattle.fed_http.specs.Faults.{IsFault, IsBadHead, IsTooLarge, IsBadLength, IsBadChunk}
 use Rattle.fed_http.specs.Reader.{Reading, StandsFor, Gives, Waits, Fails}
@@ -15,7 +15,7 @@ use Rattle.fed_http.specs.declared.message.Kind.{Kind}
 use Rattle.fed_http.specs.declared.message.Message.{Message}
 use Rattle.fed_stream.specs.declared.unread.Unread.{Unread}
 use Rattle.fed_stream.specs.declared.unread.Unread.TheVariants.{Http}
-use Rattle.fed_stream.specs.Reading.{BeginsWith, TakesUpTo, IsUnread}
+use Rattle.fed_stream.specs.Reading.{TakesUpTo, IsUnread}
 use Rattle.fed_stream.proofs.Nothing.{nothing_waits}
 
 -- what was taken waits for more, and the reader of messages stands for it

@@ -1,18 +1,14 @@
 -- What one call takes off a reader (RFC 9112, section 2.2). `old` and `new` are the bytes that the reader has left before the call and after it;
 -- where they are not known, it is said only that there are such bytes.
-use Rattle.std.specs.Prelude.{ℕ, ◌≤◌, List, ◌++◌, length, take, Option}
+use Rattle.std.specs.Prelude.{ℕ, ◌≤◌, List, ◌++◌, length, Option}
 use Rattle.std.specs.Io.KnownBytes.{Consumes, IsAtEnd}
-use Rattle.fed_http.specs.Text.{IsText}
+use Rattle.fed_http.specs.Text.{BeginsWith}
 use Rattle.fed_http.specs.Waiting.{IsWaiting}
 use Rattle.fed_http.specs.Faults.{IsFault}
 use Rattle.fed_http.specs.declared.message.Kind.{Kind}
 use Rattle.fed_http.specs.declared.message.Message.{Message}
 use Rattle.fed_stream.specs.declared.unread.Unread.{Unread}
 use Rattle.fed_stream.specs.declared.unread.Unread.TheVariants.{Http, EndedEarly, Read}
-
--- bytes begin with the text of a message (section 2.1)
-abbrev pub BeginsWith : Kind → List ℕ → Message → Type 0
-BeginsWith kind bytes m = (used : ℕ) × IsText kind m (take used bytes)
 
 -- The bytes that were taken wait for more: no message is whole in them, and they have no fault (the laws `who_waits_has_no_message` and
 -- `who_waits_has_no_fault` of fed_http).

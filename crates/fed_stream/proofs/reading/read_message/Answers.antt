@@ -2,7 +2,7 @@ use Rattle.std.proofs.Common.{arith, ◌≡◌, length, take, drop, ap, sym, ◌
 use Rattle.std.specs.Prelude.{IfSome, IfNone}
 use Rattle.fed_http.specs.Reader.{Gives, Waits}
 use Rattle.fed_http.specs.Faults.{IsFault}
-use Rattle.fed_stream.specs.Reading.{BeginsWith}
+use Rattle.fed_http.specs.Text.{BeginsWith}
 use Rattle.fed_stream.proofs.Pieces.{Stands, is_piece, stands_first, stands_kept, stands_waits, up_to, message_ends, fault_ends, nothing_taken, passed_on}
 use Rattle.fed_stream.proofs.reading.read_message.Goals.{in-Ok+in_ok-message-in-Ok+in_default, in-Err+else-ne}
 use Rattle.fed_stream.proofs.reading.read_message.Goals as goal
