@@ -1,11 +1,58 @@
-// A carrier and a gate within a test.
+// Carriers and gates within a test.
 ghost use Rattle.std.specs.Prelude.{◌≡◌, ◌≤◌};
 
 use fed_dest::ServerIndex;
 use fed_hub::{Carrier, CarrierFault, FaultCount, Gate};
 use std::alloc::Global;
+use std::sync::atomic::{AtomicU64, Ordering};
+use std::thread;
 
 const OK: &[u8] = b"HTTP/1.1 200 OK\r\nContent-Length: 12\r\n\r\n{\"pdus\":{}}\n";
+
+/// Answers each request with 200, once a stage is reached that it shares with other carriers. Its exchanges raise the stage: to one when they
+/// begin, and to another when they are answered.
+#[derive(Drop)]
+pub(crate) struct Answering<'a> {
+    pub(crate) stage: &'a AtomicU64,
+    pub(crate) begins: u64,
+    pub(crate) waits_for: u64,
+    pub(crate) answers: u64,
+    pub(crate) faults: FaultCount,
+}
+
+impl Answering<'_> {
+    // Whether the stage is reached within a million looks.
+    fn waited(&self) -> bool {
+        for _ in 0..1_000_000 {
+            if self.stage.load(Ordering::SeqCst) >= self.waits_for {
+                return true;
+            }
+            thread::yield_now();
+        }
+        false
+    }
+}
+
+impl Carrier for Answering<'_> {
+    ghost faults = { λ c. c.faults.count };
+
+    fn exchange(
+        &mut self,
+        alloc: Global,
+        _dest: ServerIndex,
+        _request: &[u8],
+    ) -> Result<Vec<u8>, CarrierFault> {
+        self.stage.fetch_max(self.begins, Ordering::SeqCst);
+        if !self.waited() {
+            return self.faults.fail(alloc, CarrierFault::Failed);
+        }
+        self.stage.fetch_max(self.answers, Ordering::SeqCst);
+        match Vec::from_slice(alloc, OK) {
+            Ok(reply) => Ok(reply),
+            Err(_) => self.faults.fail(alloc, CarrierFault::Memory),
+        }
+    }
+}
 
 /// Fails first, then answers by what is no reply, by 500, and from then on by 200.
 #[derive(Drop)]

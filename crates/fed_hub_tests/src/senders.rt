@@ -1,8 +1,8 @@
-// What a thread that delivers does where exchanges fail.
+// Threads that send to two destinations at once.
 ghost use Rattle.std.specs.Prelude.{◌≡◌, ◌<◌, Some, length};
 ghost use Rattle.fed_dest.specs.List.{place_of};
 
-use crate::carriers::{Clock, Failing};
+use crate::carriers::{Answering, Clock, Failing};
 use crate::setups::{Made, ROOM, draft, make, setup};
 use fed_dest::ServerIndex;
 use fed_event::StandIn;
@@ -10,7 +10,22 @@ use fed_hub::{ClientToken, FaultCount, Hub, Naming, Opened, Ran, Seat, SenderTok
 use std::alloc::Global;
 use std::marker::Brand;
 use std::sync::Wait;
+use std::sync::atomic::AtomicU64;
 use std::test::*;
+use std::thread::{Threads, join};
+
+// Delivers all for one destination.
+fn deliver<N: Naming, R: Wait>(
+    rt: &R,
+    alloc: Global,
+    hub: &Hub<N, StandIn>,
+    mut token: SenderToken<N>,
+    mut carrier: Answering,
+) -> (Ran, u64) {
+    let mut clock = Clock::new();
+    let ran = hub.run_sender(rt, alloc, &mut token, &mut carrier, &mut clock, 1000);
+    (ran, carrier.faults.count)
+}
 
 // Sends an event and shuts the hub down; whether all of that was done, and the event is the first.
 fn send_one<N: Naming, R: Wait>(
@@ -39,6 +54,87 @@ fn delivered<N: Naming>(hub: &Hub<N, StandIn>, seat: &mut Seat<N>) -> [u64; 3]
         hub.delivered(seat, ServerIndex::new(1)),
         hub.delivered(seat, ServerIndex::new(2)),
     ]
+}
+
+// How two threads ended, with the faults that they met, and what was delivered then.
+#[derive(Debug, Drop, PartialEq)]
+struct Ended {
+    b: (Ran, u64),
+    c: (Ran, u64),
+    delivered: [u64; 3],
+}
+
+// The exchange for b is held until the one for c is answered, which is held until the one for b has begun.
+fn both<N: Naming + Send + Sync, R: Threads + Wait + Sync>(
+    rt: &R,
+    alloc: Global,
+    made: Made<N>,
+) -> Option<Ended>
+    requires part { 0 < made.client.parts }
+    requires wires { length N.wires ≡ 3 }
+{
+    let Made {
+        hub,
+        mut client,
+        mut seat,
+        to_b,
+        to_c,
+    } = made;
+    if !send_one(rt, alloc, &hub, &mut client) {
+        return None;
+    }
+    let stage = &AtomicU64::new(0);
+    let first = Answering {
+        stage,
+        begins: 1,
+        waits_for: 2,
+        answers: 2,
+        faults: FaultCount::new(),
+    };
+    let second = Answering {
+        stage,
+        begins: 0,
+        waits_for: 1,
+        answers: 2,
+        faults: FaultCount::new(),
+    };
+    let hub = &hub;
+    let (b, c) = join(
+        rt,
+        || deliver(rt, alloc, hub, to_b, first),
+        || deliver(rt, alloc, hub, to_c, second),
+    );
+    let delivered = delivered(hub, &mut seat);
+    Some(Ended { b, c, delivered })
+}
+
+fn run<N: Naming + Send + Sync, R: Threads + Wait + Sync>(
+    rt: &R,
+    alloc: Global,
+    setup: Setup<StandIn>,
+    opened: Opened,
+) -> Option<Ended>
+    requires wires { (opened.wires ≡ N.wires) × (length opened.wires ≡ length setup.list) × (length N.wires ≡ 3) }
+    requires own { (place_of setup.list setup.own ≡ Some 0) × (N.own ≡ 0) }
+    requires board { opened.board ≡ N.board }
+    requires ledgers { (opened.events ≡ N.events) × (opened.edus ≡ N.edus) × (opened.parts ≡ N.parts) × (N.parts ≡ 1) }
+{
+    both(rt, alloc, make::<N>(alloc, setup, opened)?)
+}
+
+#[test]
+fn two_destinations_at_once(rt: HostRuntime) -> Result<(), Fail> {
+    let alloc = rt.alloc();
+    let setup = setup(alloc)?;
+    let opened = Opened::new(alloc, setup.list.len(), 1, 1)?;
+    let ended = run::<Brand, _>(&rt, alloc, setup, opened);
+    let wanted = Ended {
+        b: (Ran::Drained, 0),
+        c: (Ran::Drained, 0),
+        delivered: [0, 1, 1],
+    };
+    assert_eq!(rt; ended, Some(wanted));
+    Ok(())
 }
 
 // What was delivered after three exchanges; and how the thread ended, with how many exchanges and faults, and what was delivered then.
