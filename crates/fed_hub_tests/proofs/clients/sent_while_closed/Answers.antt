@@ -1,13 +1,12 @@
 use mathlib.Core.List.{[], ◌∷◌}
 use denote.Exit.{no}
 use denote.Param.{param}
-use denote.Param.Send.{shr_send, sendable}
+use denote.Param.Send.{shr_send}
 use denote.Ref.{ShrRef}
 use Rattle.std.specs.contracts.alloc.Global as global_type
 use Rattle.std.specs.contracts.vec.Vec as vec_type
 use Rattle.std.specs.contracts.impls.GlobalAllocator.TheImpl as heap
 use Rattle.std.proofs.alloc.Global.TheSendSync as global
-use Rattle.std.proofs.vec.Vec.TheSendSync as vec
 use Rattle.std.proofs.Crossing as crossing
 use Rattle.fed_keys.specs.contracts.stand_in.StandIn as stand_in_type
 use Rattle.fed_keys.specs.contracts.stand_in.StandInKeys.TheImpl as signs
