@@ -1,0 +1,29 @@
+use mathlib.Core.List.{[], ◌∷◌}
+use denote.Exit.{no}
+use denote.Param.{param}
+use denote.Param.Send.{shr_sync}
+use denote.Ref.{ShrRef}
+use Rattle.std.specs.contracts.alloc.Global as global_type
+use Rattle.std.proofs.alloc.Global.TheSendSync as global
+use Rattle.fed_keys.specs.contracts.stand_in.StandIn as stand_in_type
+use Rattle.fed_keys.specs.contracts.stand_in.StandInKeys.TheImpl as signs
+use Rattle.fed_keys.proofs.stand_in.StandIn.TheSendSync as stand_in
+use Rattle.fed_hub.specs.contracts.hub.Hub as hub
+use Rattle.fed_hub.proofs.Crossing.{hub_sync}
+use Rattle.fed_hub_bench.specs.contracts.work.Share as share_type
+use Rattle.fed_hub_bench.proofs.work.Share.TheSendSync as share
+use Rattle.fed_hub_bench.proofs.Crossing.{captures_sync}
+use Rattle.fed_hub_bench.proofs.work.sent_by_all.Goals as goal
+
+pub map_vec-requires-sync-F : goal.map_vec-requires-sync-F
+map_vec-requires-sync-F g c κs within =
+    let N = param 0 g.row.N in
+    let R = param 1 g.row.R in
+    let Hub = hub.the_row N stand_in_type.the_row g.N.Naming signs.ghosts in
+    captures_sync 4 _ no _ (ShrRef _ _ R ∷ ShrRef _ _ global_type.the_row ∷ ShrRef _ _ Hub ∷ ShrRef _ _ share_type.the_row ∷ []) (
+      shr_sync _ _ R c.type_bounds.sync-R,
+      (
+        shr_sync _ _ global_type.the_row global.the_sync,
+        (shr_sync _ _ Hub (hub_sync N stand_in_type.the_row g.N.Naming signs.ghosts stand_in.the_sync), (shr_sync _ _ share_type.the_row share.the_sync, tt)),
+      ),
+    )
