@@ -1,0 +1,3 @@
+pub mod RoomHeld
+pub mod Access
+pub mod Turns
