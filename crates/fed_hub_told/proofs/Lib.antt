@@ -1,0 +1,4 @@
+mod Lists
+pub mod Marking
+mod Marked
+mod Rising
