@@ -1,0 +1,4 @@
+pub mod Received
+pub mod Left
+pub mod OfJournal
+pub mod Sent

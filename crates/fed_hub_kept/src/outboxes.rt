@@ -1,0 +1,41 @@
+// Whether what an outbox accepted is of the journal.
+ghost use Rattle.std.specs.Prelude.{◌≡◌, ◌↔◌, IsTrue};
+ghost use Rattle.fed_journal.specs.Journal.{closes};
+ghost use Rattle.fed_hub_kept.specs.OfJournal.{IsOfJournal};
+
+use crate::left::Left;
+use fed_dest::ServerIndex;
+use fed_journal::Entry;
+use fed_outbox::{Outbox, nothing_is_lost_on_the_way};
+
+/// Whether what an outbox accepted is a front of what the entries of a journal place for its destination. It takes no memory, and goes through the
+/// entries as far as what was accepted reaches.
+pub fn is_of_journal(outbox: &Outbox, entries: &[Entry]) -> bool
+    ensures { IsTrue result ↔ IsOfJournal entries.now outbox.now }
+{
+    nothing_is_lost_on_the_way();
+    let dest = outbox.dest();
+    let mut left = Left::of(outbox);
+    for entry in entries {
+        if left.is_empty() {
+            return true;
+        }
+        if !left.take(entry, dest) {
+            return false;
+        }
+        if closes(entry, dest) {
+            return left.is_empty();
+        }
+    }
+    left.is_empty()
+}
+
+// Whether an entry closes the outbox of a destination.
+fn closes(entry: &Entry, dest: ServerIndex) -> bool
+    ensures { result ≡ closes dest entry.now }
+{
+    match entry {
+        Entry::Close(closed, _) => *closed == dest,
+        Entry::Event(_, _) | Entry::Edu(_, _) => false,
+    }
+}
