@@ -2,3 +2,4 @@ mod Lists
 pub mod Marking
 mod Marked
 mod Rising
+mod Seen

@@ -37,14 +37,14 @@ offered_edu (Close dest cause) = None
 abbrev pub offered_edus : List Entry → List OfferedEdu
 offered_edus entries = filter_map offered_edu entries
 
--- Events, or ephemeral data units: what clients were told of them, with a number each, and those of the journal in order.
+-- Numbered things, as the events of a journal or its ephemeral data units, in order: what clients, or others, were told of them, with a number each.
 module _ {T X : Type 0} (number : T → ℕ) (IsOf : T → X → Type 0) (things : List X) where
-  -- the numbers that one client was told rise, and the one of each number in the journal is the one that it was told of
+  -- the numbers that one client was told rise, and the thing of each number is the one that it was told of
   pub record IsClientAsTold (told : List T) : Type 0 where
     pub rising : IsStrictlyIncreasing (map number told)
     pub same : All (λ t. IsSomeAnd (numbered things (number t)) (IsOf t)) told
 
-  -- that is so of each client, and over all clients the numbers are those of the journal, each once
+  -- that is so of each client, and over all clients the numbers are those of the things, each once
   pub record AreAsTold (clients : List (List T)) : Type 0 where
     pub each : All IsClientAsTold clients
     pub once : AreEachOnce (length things) (flat_map (map number) clients)

@@ -1,97 +1,69 @@
-// What clients were told, compared with a journal.
-ghost use Rattle.std.specs.Prelude.{◌≡◌, ◌↔◌, ℕ, Bool, List, IsTrue, IfOk, MatchBool, map};
-ghost use Rattle.fed_hub_told.specs.declared.told_event.ToldEvent.{ToldEvent};
-ghost use Rattle.fed_hub_told.specs.declared.told_edu.ToldEdu.{ToldEdu};
-ghost use Rattle.fed_hub_told.specs.AsTold.{IsAsTold, IsEventOf, IsEduOf, AreEventsAsTold, AreEdusAsTold};
+// Numbered things, compared with what was noted of them.
+ghost use Rattle.std.specs.Prelude.{◌≡◌, ◌↔◌, ℕ, Bool, List, IsTrue, IfOk, IsSomeAnd, MatchBool, map, option_map};
+ghost use Rattle.fed_hub_told.specs.AsTold.{AreAsTold};
 ghost use Rattle.fed_hub_told.specs.Marking.{IsMarked};
-ghost use Rattle.fed_hub_told.specs.Offers.{edu_of};
+ghost use Rattle.fed_hub_told.specs.Numbers.{numbered};
 
 use crate::marks::Marks;
-use crate::offers::{Offer, edus_among, events_among};
-use crate::told::Told;
-use crate::told_edu::ToldEdu;
-use crate::told_event::ToldEvent;
-use fed_event::Checked;
-use fed_journal::Entry;
+use crate::note::Note;
 use fed_json::NoMemory;
 use std::alloc::Global;
 
-/// Whether the journal of these entries is as all clients were told: the numbers that each client was told rise; over all clients they are those
-/// from 1 to the count of the journal's events, each once; and the event of each number has the id that was told and the fields of the draft. And
-/// the same of EDUs: the one of each number is the EDU that was told of, for the destinations that were told.
+/// Whether things are as all were told who hold notes of them: the numbers that each holder noted rise; over all holders they are those from 1
+/// to the count of the things, each once; and the thing of each number is the one that the note is of. `told` has the notes of each holder.
 ///
-/// Its steps are linear in the count of the entries and of what was told, and in the size of these.
+/// Its steps are linear in the count of the things and of the notes, beside those of `Note::is_of`.
 ///
 /// # Errors
 ///
-/// `NoMemory`, where the marks, the list of what the journal has or the content of an event has no memory.
-pub fn is_as_told(alloc: Global, told: &[Told], entries: &[Entry]) -> Result<bool, NoMemory>
-    ensures { IfOk result (λ is. IsTrue is ↔ IsAsTold told.now entries.now) }
+/// `NoMemory`, where the marks or a note has no memory.
+pub fn are_as_told<X, N: Note<X>>(
+    alloc: Global,
+    told: &[&[N]],
+    things: &[X],
+) -> Result<bool, NoMemory>
+    ensures { IfOk result (λ are. IsTrue are ↔ AreAsTold N.number N.IsOf things.now (map (λ notes. notes.now) told.now)) }
 {
-    if !are_events_as_told(alloc, told, entries)? {
-        return Ok(false);
-    }
-    are_edus_as_told(alloc, told, entries)
-}
-
-// Whether the events of a journal are as clients were told.
-fn are_events_as_told(alloc: Global, told: &[Told], entries: &[Entry]) -> Result<bool, NoMemory>
-    ensures { IfOk result (λ is. IsTrue is ↔ AreEventsAsTold told.now entries.now) }
-{
-    let events = events_among(alloc, entries)?;
-    let mut marks = Marks::new(alloc, events.len())?;
-    for client in told {
-        if !mark_events(client.events(), &events, &mut marks)? {
+    let mut marks = Marks::new(alloc, things.len())?;
+    for notes in told {
+        if !mark_notes(notes, things, &mut marks)? {
             return Ok(false);
         }
     }
     Ok(marks.all_marked())
 }
 
-// Marks the numbers of the events that a client was told of, and says whether these are as it was told.
-fn mark_events(told: &[ToldEvent], events: &[&Checked], marks: &mut Marks) -> Result<bool, NoMemory>
+// Marks the numbers that one holder noted, and says whether the things are as it was told.
+fn mark_notes<X, N: Note<X>>(notes: &[N], things: &[X], marks: &mut Marks) -> Result<bool, NoMemory>
     ensures { IfOk result (λ is. MatchBool is
-        (IsMarked (λ (t : ToldEvent). t.number) IsEventOf (map (λ e. e.now) events.now) told.now marks.old marks.new)
-        ((after : List Bool) → ¬ IsMarked (λ (t : ToldEvent). t.number) IsEventOf (map (λ e. e.now) events.now) told.now marks.old after)) }
+        (IsMarked N.number N.IsOf things.now notes.now marks.old marks.new)
+        ((after : List Bool) → ¬ IsMarked N.number N.IsOf things.now notes.now marks.old after)) }
 {
-    if !told.is_sorted_by(|event, next| event.number < next.number) {
+    if !notes.is_sorted_by(|note, next| note.number() < next.number()) {
         return Ok(false);
     }
-    for event in told {
-        if !marks.mark(event.number) || !event.is_among(events)? {
+    for note in notes {
+        if !marks.mark(note.number()) || !is_among(note, things)? {
             return Ok(false);
         }
     }
     Ok(true)
 }
 
-// Whether the EDUs of a journal are as clients were told.
-fn are_edus_as_told(alloc: Global, told: &[Told], entries: &[Entry]) -> Result<bool, NoMemory>
-    ensures { IfOk result (λ is. IsTrue is ↔ AreEdusAsTold told.now entries.now) }
+// Whether the thing of a note's number is the one that the note is of.
+fn is_among<X, N: Note<X>>(note: &N, things: &[X]) -> Result<bool, NoMemory>
+    ensures { IfOk result (λ is. IsTrue is ↔ IsSomeAnd (numbered things.now (N.number note.now)) (N.IsOf note.now)) }
 {
-    let edus = edus_among(alloc, entries)?;
-    let mut marks = Marks::new(alloc, edus.len())?;
-    for client in told {
-        if !mark_edus(client.edus(), &edus, &mut marks) {
-            return Ok(false);
-        }
+    match at_number(things, note.number()) {
+        Some(thing) => note.is_of(thing),
+        None => Ok(false),
     }
-    Ok(marks.all_marked())
 }
 
-// Marks the numbers of the EDUs that a client was told of, and says whether these are as it was told. It takes no memory.
-fn mark_edus(told: &[ToldEdu], edus: &[Offer<'_>], marks: &mut Marks) -> bool
-    ensures { MatchBool result
-        (IsMarked (λ (t : ToldEdu). t.number) IsEduOf (map edu_of edus.now) told.now marks.old marks.new)
-        ((after : List Bool) → ¬ IsMarked (λ (t : ToldEdu). t.number) IsEduOf (map edu_of edus.now) told.now marks.old after) }
+// The thing of a number, from 1.
+fn at_number<X>(things: &[X], number: u64) -> Option<&X>
+    ensures { option_map (λ thing. thing.now) result ≡ numbered things.now number }
 {
-    if !told.is_sorted_by(|edu, next| edu.number < next.number) {
-        return false;
-    }
-    for edu in told {
-        if !marks.mark(edu.number) || !edu.is_among(edus) {
-            return false;
-        }
-    }
-    true
+    let place = number.checked_sub(1)?;
+    things.get(place as usize)
 }

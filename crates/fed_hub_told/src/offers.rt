@@ -2,7 +2,6 @@
 ghost use Rattle.std.specs.Prelude.{◌≡◌, IfOk, map};
 ghost use Rattle.fed_journal.specs.Journal.{events_of};
 ghost use Rattle.fed_hub_told.specs.AsTold.{offered_edus};
-ghost use Rattle.fed_hub_told.specs.Numbers.{numbered};
 ghost use Rattle.fed_hub_told.specs.Offers.{edu_of};
 
 use fed_dest::ServerSet;
@@ -48,12 +47,4 @@ pub(crate) fn edus_among<'a>(
         }
     }
     Ok(edus)
-}
-
-/// The thing of a number, from 1.
-pub(crate) fn at_number<X: Copy>(things: &[X], number: u64) -> Option<X>
-    ensures { result ≡ numbered things.now number }
-{
-    let place = number.checked_sub(1)?;
-    things.get(place as usize).copied()
 }

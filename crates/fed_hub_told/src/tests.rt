@@ -1,9 +1,11 @@
-// What two clients were told, compared with a small journal.
+// What two clients were told, compared with a small journal; and notes of other things.
+ghost use Rattle.std.specs.Prelude.{◌≡◌};
+
 use super::*;
 use fed_dest::{ServerIndex, ServerSet};
 use fed_event::{Checked, StandIn, is_sent_by, seal};
 use fed_journal::{Cause, Entry};
-use fed_json::{Json, read};
+use fed_json::{Json, NoMemory, read};
 use fed_room_contract::Draft;
 use std::alloc::Global;
 use std::test::*;
@@ -204,6 +206,41 @@ fn edus_are_as_clients_were_told(rt: HostRuntime) -> Result<(), Fail> {
         let found = compare(rt.alloc(), ["100", "211"], [first, second]);
         assert_eq!(rt; found, Some(expected));
     }
+    Ok(())
+}
+
+// A note that a byte has a number.
+#[derive(Drop)]
+struct NotedByte {
+    number: u64,
+    byte: u8,
+}
+
+impl Note<u8> for NotedByte {
+    ghost number = { λ noted. noted.number };
+
+    ghost IsOf = { λ noted byte. noted.byte ≡ byte };
+
+    fn number(&self) -> u64 {
+        self.number
+    }
+
+    fn is_of(&self, byte: &u8) -> Result<bool, NoMemory> {
+        Ok(self.byte == *byte)
+    }
+}
+
+#[test]
+fn bytes_are_as_their_holders_were_told(rt: HostRuntime) -> Result<(), Fail> {
+    let noted = |number, byte| NotedByte { number, byte };
+    let first = [noted(1, b'x'), noted(3, b'z')];
+    let second = [noted(2, b'y')];
+    let told: [&[NotedByte]; 3] = [&first, &[], &second];
+    assert!(rt; are_as_told(rt.alloc(), &told, b"xyz")?);
+    // Another byte, a byte more, and a byte fewer.
+    assert!(rt; !are_as_told(rt.alloc(), &told, b"xyx")?);
+    assert!(rt; !are_as_told(rt.alloc(), &told, b"xyzz")?);
+    assert!(rt; !are_as_told(rt.alloc(), &told, b"xy")?);
     Ok(())
 }
 

@@ -1,12 +1,10 @@
 // An ephemeral data unit that a client was told of.
-ghost use Rattle.std.specs.Prelude.{◌≡◌, ◌↔◌, IsTrue, IsSomeAnd, map};
-ghost use Rattle.fed_hub_told.specs.AsTold.{IsEduOf};
-ghost use Rattle.fed_hub_told.specs.Numbers.{numbered};
-ghost use Rattle.fed_hub_told.specs.Offers.{edu_of};
+ghost use Rattle.std.specs.Prelude.{◌≡◌};
 
-use crate::offers::{Offer, at_number};
+use crate::note::Note;
+use crate::offers::Offer;
 use fed_dest::ServerSet;
-use fed_json::Json;
+use fed_json::{Json, NoMemory};
 
 /// An EDU that a client was told of: the EDU, and the servers that it goes to and the number among the EDUs of the journal, from 1, that it was
 /// told.
@@ -17,14 +15,21 @@ pub struct ToldEdu {
     pub number: u64,
 }
 
-impl ToldEdu {
-    // Whether the EDU of its number among these is the one that was told of. It takes no memory.
-    pub(crate) fn is_among(&self, edus: &[Offer<'_>]) -> bool
-        ensures { IsTrue result ↔ IsSomeAnd (numbered (map edu_of edus.now) self.now.number) (IsEduOf self.now) }
+impl Note<Offer<'_>> for ToldEdu {
+    ghost use Rattle.fed_hub_told.specs.AsTold.{IsEduOf};
+    ghost use Rattle.fed_hub_told.specs.Offers.{edu_of};
+
+    ghost number = { λ told. told.number };
+
+    ghost IsOf = { λ told offer. IsEduOf told (edu_of offer) };
+
+    fn number(&self) -> u64
+        ensures { result ≡ self.now.number }
     {
-        match at_number(edus, self.number) {
-            Some(offer) => *offer.edu == self.edu && *offer.dests == self.dests,
-            None => false,
-        }
+        self.number
+    }
+
+    fn is_of(&self, offer: &Offer<'_>) -> Result<bool, NoMemory> {
+        Ok(*offer.edu == self.edu && *offer.dests == self.dests)
     }
 }

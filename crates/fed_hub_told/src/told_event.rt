@@ -1,10 +1,8 @@
 // An event that a client was told of.
-ghost use Rattle.std.specs.Prelude.{◌≡◌, ◌↔◌, IsTrue, IfOk, IsSomeAnd, map, option_map, string_bytes};
+ghost use Rattle.std.specs.Prelude.{◌≡◌, ◌↔◌, IsTrue, IfOk, option_map, string_bytes};
 ghost use Rattle.fed_room_contract.specs.Draft.{Bears};
-ghost use Rattle.fed_hub_told.specs.AsTold.{IsEventOf};
-ghost use Rattle.fed_hub_told.specs.Numbers.{numbered};
 
-use crate::offers::at_number;
+use crate::note::Note;
 use fed_event::{Checked, EventId, Pdu};
 use fed_json::NoMemory;
 use fed_room_contract::Draft;
@@ -18,21 +16,20 @@ pub struct ToldEvent {
     pub event_id: EventId,
 }
 
-impl ToldEvent {
-    // Whether the event of its number among these is the one that was told of.
-    pub(crate) fn is_among(&self, events: &[&Checked]) -> Result<bool, NoMemory>
-        ensures { IfOk result (λ is. IsTrue is ↔ IsSomeAnd (numbered (map (λ e. e.now) events.now) self.now.number) (IsEventOf self.now)) }
+impl Note<&Checked> for ToldEvent {
+    ghost use Rattle.fed_hub_told.specs.AsTold.{IsEventOf};
+
+    ghost number = { λ told. told.number };
+
+    ghost IsOf = { λ told event. IsEventOf told event.now };
+
+    fn number(&self) -> u64
+        ensures { result ≡ self.now.number }
     {
-        match at_number(events, self.number) {
-            Some(event) => self.is_told_of(event),
-            None => Ok(false),
-        }
+        self.number
     }
 
-    // Whether an event has the id and the fields of the draft.
-    fn is_told_of(&self, event: &Checked) -> Result<bool, NoMemory>
-        ensures { IfOk result (λ is. IsTrue is ↔ IsEventOf self.now event.now) }
-    {
+    fn is_of(&self, event: &&Checked) -> Result<bool, NoMemory> {
         let event = event.event();
         if *event.id() != self.event_id {
             return Ok(false);
