@@ -4,3 +4,6 @@ pub mod Prefixes
 pub mod Walks
 pub mod Members
 pub mod Destinations
+mod Each
+mod ById
+mod InRooms

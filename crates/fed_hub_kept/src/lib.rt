@@ -2,8 +2,8 @@
 //!
 //! - `received`: `are_received`, whether the events that came to a room are those that were given to it
 //! - `left`: what of what an outbox accepted is not found in the journal yet
-//! - `outboxes`: `is_of_journal`, whether what an outbox accepted was placed for its destination by the journal
-//! - `sent`: `is_sent_as_stored`, whether an event went where the room in which it is stored sends it
+//! - `outboxes`: `is_of_journal` and `are_of_journal`, whether what outboxes accepted was placed for their destinations by the journal
+//! - `sent`: `is_sent_as_stored` and `are_sent_as_stored`, whether events went where the rooms in which they are stored send them
 //! - `laws`: what holds of an outbox whose comparison came out well
 #![tactic(auto)]
 
@@ -14,9 +14,9 @@ mod received;
 mod sent;
 
 pub use laws::outboxes_of_a_journal;
-pub use outboxes::is_of_journal;
+pub use outboxes::{are_of_journal, is_of_journal};
 pub use received::are_received;
-pub use sent::is_sent_as_stored;
+pub use sent::{are_sent_as_stored, is_sent_as_stored};
 
 #[cfg(test)]
 mod tests;

@@ -1,10 +1,11 @@
-// Whether what an outbox accepted is of the journal.
-ghost use Rattle.std.specs.Prelude.{◌≡◌, ◌↔◌, IsTrue};
+// Whether what outboxes accepted is of the journal.
+ghost use Rattle.std.specs.Prelude.{◌≡◌, ◌↔◌, All, IsTrue};
 ghost use Rattle.fed_journal.specs.Journal.{closes};
 ghost use Rattle.fed_hub_kept.specs.OfJournal.{IsOfJournal};
 
 use crate::left::Left;
 use fed_dest::ServerIndex;
+use fed_hub_state::{Naming, SeatedOutbox};
 use fed_journal::Entry;
 use fed_outbox::{Outbox, nothing_is_lost_on_the_way};
 
@@ -28,6 +29,18 @@ pub fn is_of_journal(outbox: &Outbox, entries: &[Entry]) -> bool
         }
     }
     left.is_empty()
+}
+
+/// Whether what each of these outboxes accepted is a front of what the entries of a journal place for its destination. It takes no memory.
+pub fn are_of_journal<N: Naming>(outboxes: &[SeatedOutbox<N>], entries: &[Entry]) -> bool
+    ensures { IsTrue result ↔ All (IsOfJournal entries.now) outboxes.now }
+{
+    for seated in outboxes {
+        if !is_of_journal(seated.outbox(), entries) {
+            return false;
+        }
+    }
+    true
 }
 
 // Whether an entry closes the outbox of a destination.

@@ -1,12 +1,20 @@
 // A small room, journal and outboxes, some of which do not fit together.
+ghost use Rattle.std.specs.Prelude.{◌≡◌, length};
+ghost use Rattle.fed_wires.specs.Seat.{AreOwners};
+
 use super::*;
-use fed_dest::{ServerIndex, ServerSet};
-use fed_event::{Checked, Pdu, Trusting, check_in};
+use fed_dest::{List, ServerIndex, ServerName, ServerSet};
+use fed_event::{Checked, Pdu, StandIn, Trusting, check_in};
+use fed_hub_state::sections::collect;
+use fed_hub_state::{KeptRoom, Naming, SeatedOutbox};
 use fed_journal::{Cause, Entry, Load, MAX_ENTRIES, Parcel, Place};
 use fed_json::{Json, read};
 use fed_outbox::Outbox;
-use fed_room_contract::Input;
+use fed_room::{Room, started};
+use fed_room_contract::{Draft, Input, RoomEngine};
+use fed_wires::{Board, Seat};
 use std::alloc::Global;
+use std::marker::Brand;
 use std::test::*;
 
 const FIRST: &str =
@@ -139,5 +147,164 @@ fn what_was_accepted_is_what_was_placed(rt: HostRuntime) -> Result<(), Fail> {
         are_placed(alloc, &[first, edu, second, other]),
         Some(false)
     );
+    Ok(())
+}
+
+// Whether an outbox for the server at place 0 that accepted these is of a journal that places the first event for it.
+fn are_all_placed<N: Naming>(
+    alloc: Global,
+    board: &Board,
+    mut owners: Vec<Seat>,
+    held: &[Held],
+) -> Option<bool>
+    requires board { board.now.id ≡ N.board }
+    requires owners { AreOwners board.now.id owners.items × (length owners.items ≡ 1) }
+{
+    let dest = ServerIndex::new(0);
+    let mut outbox = SeatedOutbox::<N>::new(alloc, dest, owners.pop()?);
+    for one in held {
+        let place = Place::new(dest, outbox.outbox().expected().min(MAX_ENTRIES));
+        let load = load(alloc, *one)?;
+        collect(&mut outbox, Parcel { place, load }).ok()?;
+    }
+    let outboxes = vec![in alloc; outbox].ok()?;
+    let placed = Entry::Event(event(alloc, FIRST)?, servers(alloc, &[dest])?);
+    Some(are_of_journal(&outboxes, &[placed]))
+}
+
+// The same, at a board of its own.
+fn are_placed_at_a_board(alloc: Global, held: &[Held]) -> Option<bool> {
+    let (board, owners, readers) = Board::new(alloc, 1, 0).ok()?;
+    drop(readers);
+    are_all_placed::<Brand>(alloc, &board, owners, held)
+}
+
+#[test]
+fn what_all_accepted_is_what_was_placed(rt: HostRuntime) -> Result<(), Fail> {
+    let alloc = rt.alloc();
+    let (first, other) = (Held::First, Held::Third);
+    assert_eq!(rt; are_placed_at_a_board(alloc, &[]), Some(true));
+    assert_eq!(rt; are_placed_at_a_board(alloc, &[first]), Some(true));
+    assert_eq!(rt; are_placed_at_a_board(alloc, &[other]), Some(false));
+    assert_eq!(rt; are_placed_at_a_board(alloc, &[first, other]), Some(false));
+    Ok(())
+}
+
+// The servers a, b and c.
+fn list(alloc: Global) -> Option<List> {
+    let mut names = Vec::with_capacity(alloc, 3).ok()?;
+    for name in ["a", "b", "c"] {
+        names.push(ServerName::read(alloc, name).ok()?).ok()?;
+    }
+    List::new(names).ok()
+}
+
+fn keys(alloc: Global) -> Option<Vec<StandIn>> {
+    let mut keys = Vec::with_capacity(alloc, 3).ok()?;
+    for server in ["a", "b", "c"] {
+        let own = StandIn::new(String::from_str(alloc, server).ok()?);
+        keys.push(own).ok()?;
+    }
+    Some(keys)
+}
+
+/// A room of two users of a, and between them one of b and one of c.
+const ROOM: &str = "!r:a";
+
+/// A room of two users of a, and between them one of b.
+const PAIR: &str = "!s:a";
+
+fn users(alloc: Global, room: &str) -> Option<Vec<String>> {
+    let mut users = Vec::with_capacity(alloc, 4).ok()?;
+    for user in ["@u:a", "@v:b", "@w:c", "@x:a"] {
+        if room != PAIR || user != "@w:c" {
+            users.push(String::from_str(alloc, user).ok()?).ok()?;
+        }
+    }
+    Some(users)
+}
+
+// The events that one of the two rooms begins with. The last one of them is that a second user of a joins.
+fn beginning(alloc: Global, room: &str) -> Option<Vec<Checked>> {
+    started(alloc, room, &users(alloc, room)?, &keys(alloc)?).ok()
+}
+
+// A message in one of the two rooms, which it has not stored.
+fn message(alloc: Global, room: &str) -> Option<Checked> {
+    let draft = Draft {
+        room: String::from_str(alloc, room).ok()?,
+        sender: String::from_str(alloc, "@u:a").ok()?,
+        kind: String::from_str(alloc, "m.x").ok()?,
+        state_key: None,
+        content: read(alloc, b"{}").ok()?,
+        at_ms: 0,
+    };
+    let keys = StandIn::new(String::from_str(alloc, "a").ok()?);
+    let mut room = Room::start(alloc, "a", beginning(alloc, room)?).ok()?;
+    let prepared = room.prepare(alloc, draft, &keys).ok()?;
+    prepared.event().copy(alloc).ok()
+}
+
+// Whether an event is stored in the first room, and was sent to the servers at these places.
+fn is_sent(alloc: Global, event: &Checked, places: &[ServerIndex]) -> Option<bool> {
+    let room = KeptRoom::start(alloc, "a", beginning(alloc, ROOM)?).ok()?;
+    let dests = servers(alloc, places)?;
+    let own = ServerIndex::new(0);
+    is_sent_as_stored(alloc, room.room(), own, &list(alloc)?, event, &dests).ok()
+}
+
+#[test]
+fn an_event_goes_to_the_servers_that_are_joined(rt: HostRuntime) -> Result<(), Fail> {
+    let alloc = rt.alloc();
+    let (one, two) = (ServerIndex::new(1), ServerIndex::new(2));
+    let last = beginning(alloc, ROOM).and_then(|mut events| events.pop());
+    let last = last.ok_or("memory")?;
+    assert_eq!(rt; is_sent(alloc, &last, &[one, two]), Some(true));
+    assert_eq!(rt; is_sent(alloc, &last, &[one]), Some(false));
+    let other = message(alloc, ROOM).ok_or("memory")?;
+    assert_eq!(rt; is_sent(alloc, &other, &[one, two]), Some(false));
+    Ok(())
+}
+
+// The last of the events that each of the two rooms began with, between them an EDU and a closing; the event of the second room was sent to
+// these places.
+fn journal(alloc: Global, places: &[ServerIndex]) -> Option<Vec<Entry>> {
+    let (one, two) = (ServerIndex::new(1), ServerIndex::new(2));
+    let mut entries = Vec::with_capacity(alloc, 4).ok()?;
+    let event = beginning(alloc, ROOM)?.pop()?;
+    let both = servers(alloc, &[one, two])?;
+    entries.push(Entry::Event(event, both)).ok()?;
+    let edu = Entry::Edu(typing(alloc)?, servers(alloc, &[one])?);
+    entries.push(edu).ok()?;
+    entries.push(Entry::Close(two, Cause::Asked)).ok()?;
+    let event = beginning(alloc, PAIR)?.pop()?;
+    let dests = servers(alloc, places)?;
+    entries.push(Entry::Event(event, dests)).ok()?;
+    Some(entries)
+}
+
+// Whether all events of that journal went where these rooms send them.
+fn are_sent(alloc: Global, rooms: &[&str], places: &[ServerIndex]) -> Option<bool> {
+    let mut kept = Vec::with_capacity(alloc, rooms.len()).ok()?;
+    for room in rooms {
+        let room = KeptRoom::start(alloc, "a", beginning(alloc, *room)?).ok()?;
+        kept.push(room).ok()?;
+    }
+    let entries = journal(alloc, places)?;
+    are_sent_as_stored(alloc, &kept, ServerIndex::new(0), &list(alloc)?, &entries).ok()
+}
+
+#[test]
+fn all_events_go_where_their_rooms_send_them(rt: HostRuntime) -> Result<(), Fail> {
+    let alloc = rt.alloc();
+    let (one, two) = (ServerIndex::new(1), ServerIndex::new(2));
+    assert_eq!(rt; are_sent(alloc, &[ROOM, PAIR], &[one]), Some(true));
+    assert_eq!(rt; are_sent(alloc, &[PAIR, ROOM], &[one]), Some(true));
+    // The second event went to one server more, or to one fewer.
+    assert_eq!(rt; are_sent(alloc, &[ROOM, PAIR], &[one, two]), Some(false));
+    assert_eq!(rt; are_sent(alloc, &[ROOM, PAIR], &[]), Some(false));
+    // Its room is not there.
+    assert_eq!(rt; are_sent(alloc, &[ROOM], &[one]), Some(false));
+    assert_eq!(rt; are_sent(alloc, &[], &[one]), Some(false));
     Ok(())
 }
