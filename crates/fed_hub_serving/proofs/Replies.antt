@@ -1,5 +1,6 @@
 -- What a server replies to a request, and what becomes of one that comes to it.
-use Rattle.std.proofs.Common.{◌≡◌, ℕ, List, [], Option, Some, None, refl, sym, subst, ap, ◌∙◌}
+use Rattle.std.proofs.Common.{◌≡◌, ℕ, List, [], length, Option, Some, None, refl, sym, subst, ◌∙◌}
+use Rattle.std.proofs.lemmas.Option.{none-some}
 use Rattle.fed_event.specs.Checked.{CheckedEvent}
 use Rattle.fed_keys.specs.Keys.{Checks}
 use Rattle.fed_http.specs.FaultReplies.{reply_to}
@@ -15,9 +16,9 @@ use Rattle.fed_stream.specs.Reading.{Reads, IsUnread}
 use Rattle.fed_stream.specs.declared.unread.Unread.TheVariants.{Http}
 use Rattle.fed_hub_serving.specs.declared.served.Served.{Served}
 use Rattle.fed_hub_serving.specs.declared.served.Served.TheVariants.{Answered, ReadFault, EndedEarly, WriteFault}
-use Rattle.fed_hub_serving.specs.Answered.{AnsweredValue, with_answered}
+use Rattle.fed_hub_serving.specs.Answered.{AnsweredValue}
 use Rattle.fed_hub_serving.specs.Sections.{Takes, RequestIsTaken, no_memory, served}
-use Rattle.fed_hub_serving.specs.Served.{IsInboxReply, IsTakenIn, hidden, seen, Ends, to_request, to_fault, IsServed}
+use Rattle.fed_hub_serving.specs.Served.{IsInboxReply, IsNumbered, IsTakenIn, hidden, seen, Ends, to_request, to_fault, IsServed}
 use Rattle.fed_hub_serving.specs.ServedParts.{IsSent, IsRequestServed}
 use Rattle.fed_hub_serving.specs.Serving.{ServingState, IsKeptFrom}
 use Rattle.fed_hub_serving.proofs.Takes.{takes, no_memory_is_told}
@@ -28,9 +29,14 @@ module _ (checks : Checks) (known : List (List ℕ)) (beginning : InboxState) (r
       let take = takes [] in
       record { points = old.points; inbox = old.inbox; history = history; new = new; fresh = take.fresh; answered = take.answered }
 
-  pub replied : (new : ServingState) → IsKeptFrom checks beginning old → RequestIsTaken checks known request old reply new → IsInboxReply checks beginning request reply
-  replied _ history (no_memory is takes) = by_step old.inbox [] history takes
-  replied _ history (served new so) = by_step new.inbox so.fresh history so.takes
+  module _ (number : Option ℕ) where
+    pub replied : (new : ServingState) → IsKeptFrom checks beginning old → RequestIsTaken checks known request old reply number new → IsInboxReply checks beginning request reply
+    replied _ history (no_memory is none takes) = by_step old.inbox [] history takes
+    replied _ history (served new so some) = by_step new.inbox so.fresh history so.takes
+
+    pub numbered : (new : ServingState) → RequestIsTaken checks known request old reply number new → IsNumbered reply number
+    numbered _ (no_memory is none takes) = (λ _. is, λ _. none)
+    numbered _ (served new so some) = (λ none. absurd (none-some (length new.points) (sym none ∙ some)), λ is. absurd (so.found is))
 
 -- of want of memory it tells after any history
 pub replied_for_memory : (checks : Checks) (beginning : InboxState) (request : RequestValue) → IsInboxReply checks beginning request (refused OutOfMemory)
@@ -45,27 +51,28 @@ replied_for_memory checks beginning request = record {
 
 module _ (checks : Checks) (known : List (List ℕ)) (beginning : InboxState) where
   -- where memory runs out, the inbox is as it was
-  untaken_for_memory : (request : RequestValue) (inbox : Option ServingState) → IsTakenIn checks known request (refused OutOfMemory) inbox inbox
-  untaken_for_memory request None = hidden None
+  untaken_for_memory : (request : RequestValue) (inbox : Option ServingState) → IsTakenIn checks known request (refused OutOfMemory) None inbox inbox
+  untaken_for_memory request None = hidden None (λ _. refl, λ _. refl)
   untaken_for_memory request (Some old) =
-      seen old old (no_memory refl (takes checks known request old.inbox (refused OutOfMemory) old.inbox [] (no_memory_is_told checks old.inbox request)))
+      seen old old (no_memory refl refl (takes checks known request old.inbox (refused OutOfMemory) old.inbox [] (no_memory_is_told checks old.inbox request)))
 
   -- where memory runs out for a request, it is told, and nothing is kept
   pub served_for_memory : (request : RequestValue) (inbox : Option ServingState) (given given' : List AnsweredValue) (old new : Option (List ℕ)) (told : Served) (reply : Answer) → reply ≡ refused OutOfMemory → given' ≡ given
       → IsSent old new reply told → IsRequestServed checks known beginning request inbox inbox given given' old new told
   served_for_memory request inbox given given' old new told reply is same sent = record {
     reply = reply;
+    number = None;
     of_inbox = subst (IsInboxReply checks beginning request) (sym is) (replied_for_memory checks beginning request);
-    taken = subst (λ (a : Answer). IsTakenIn checks known request a inbox inbox) (sym is) (untaken_for_memory request inbox);
-    kept = same ∙ ap (with_answered given request) (sym is);
+    taken = subst (λ (a : Answer). IsTakenIn checks known request a None inbox inbox) (sym is) (untaken_for_memory request inbox);
+    kept = same;
     sent = sent;
   }
 
   module _ (old new : Ends) where
     pub of_request : (request : RequestValue) → Reads Requests old.left new.left (Request request) → (told : Served)
         → IsRequestServed checks known beginning request old.inbox new.inbox old.given new.given old.written new.written told → IsServed checks known beginning old new told
-    of_request request reads (Answered status) so = (so.reply, to_request request reads so.of_inbox so.taken so.kept, so.sent.0, so.sent.1)
-    of_request request reads WriteFault so = (so.reply, to_request request reads so.of_inbox so.taken so.kept, so.sent)
+    of_request request reads (Answered status) so = (so.reply, to_request request so.number reads so.of_inbox so.taken so.kept, so.sent.0, so.sent.1)
+    of_request request reads WriteFault so = (so.reply, to_request request so.number reads so.of_inbox so.taken so.kept, so.sent)
     of_request request reads ReadFault so = absurd so.sent
     of_request request reads EndedEarly so = absurd so.sent
 
@@ -81,6 +88,6 @@ pub replied_to : (checks : Checks) (beginning : InboxState) (judged request : Re
     → IsInboxReply checks beginning request reply
 replied_to checks beginning judged request reply same is = subst (λ (r : RequestValue). IsInboxReply checks beginning r reply) same is
 
-pub taken_for : (checks : Checks) (known : List (List ℕ)) (judged request : RequestValue) (reply : Answer) (old new : Option ServingState) → judged ≡ request
-    → IsTakenIn checks known judged reply old new → IsTakenIn checks known request reply old new
-taken_for checks known judged request reply old new same is = subst (λ (r : RequestValue). IsTakenIn checks known r reply old new) same is
+pub taken_for : (checks : Checks) (known : List (List ℕ)) (judged request : RequestValue) (reply : Answer) (number : Option ℕ) (old new : Option ServingState) → judged ≡ request
+    → IsTakenIn checks known judged reply number old new → IsTakenIn checks known request reply number old new
+taken_for checks known judged request reply number old new same is = subst (λ (r : RequestValue). IsTakenIn checks known r reply number old new) same is

@@ -40,7 +40,9 @@ pub record IsServed (checks : Checks) (known : List (List ℕ)) (request : Reque
   pub shut : new.is_shut ≡ old.is_shut
   pub found : reply.status ≢ 500
 
--- Or memory ran out, and nothing changed.
-pub data RequestIsTaken (checks : Checks) (known : List (List ℕ)) (request : RequestValue) (old : ServingState) (reply : Answer) : ServingState → Type 0 where
-  no_memory : reply.status ≡ 500 → Takes checks known request old.inbox reply old.inbox [] → RequestIsTaken checks known request old reply old
-  served : (new : ServingState) → IsServed checks known request old reply new → RequestIsTaken checks known request old reply new
+-- So it was, and its number is the length of the history with it; or memory ran out, nothing changed, and it has no number.
+pub data RequestIsTaken (checks : Checks) (known : List (List ℕ)) (request : RequestValue) (old : ServingState) (reply : Answer) (number : Option ℕ) : ServingState → Type 0 where
+  no_memory : reply.status ≡ 500 → number ≡ None → Takes checks known request old.inbox reply old.inbox []
+      → RequestIsTaken checks known request old reply number old
+  served : (new : ServingState) → IsServed checks known request old reply new → number ≡ Some (length new.points)
+      → RequestIsTaken checks known request old reply number new

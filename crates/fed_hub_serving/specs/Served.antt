@@ -1,5 +1,5 @@
 -- What becomes of one request that comes to a server (Matrix, Server-Server API, "Transactions"; Client-Server API, "Standard error response").
-use Rattle.std.specs.Prelude.{◌≡◌, ℕ, List, Option, Some, None}
+use Rattle.std.specs.Prelude.{◌≡◌, ◌↔◌, ℕ, List, Option, Some, None}
 use Rattle.std.specs.Io.KnownBytes.{Appends}
 use Rattle.fed_event.specs.Checked.{CheckedEvent}
 use Rattle.fed_keys.specs.Keys.{Checks}
@@ -30,11 +30,16 @@ pub record IsInboxReply (checks : Checks) (beginning : InboxState) (request : Re
   pub fresh : List CheckedEvent
   pub answered : IsAnsweredWhole checks inbox request reply new fresh
 
--- Where the state of the inbox is known, it is the inbox that answered: the request is the next of its history, or memory ran out and nothing
--- changed.
-pub data IsTakenIn (checks : Checks) (known : List (List ℕ)) (request : RequestValue) (reply : Answer) : Option ServingState → Option ServingState → Type 0 where
-  hidden : (new : Option ServingState) → IsTakenIn checks known request reply None new
-  seen : (old new : ServingState) → RequestIsTaken checks known request old reply new → IsTakenIn checks known request reply (Some old) (Some new)
+-- a request has no number just where its reply is of 500
+abbrev pub IsNumbered : Answer → Option ℕ → Type 0
+IsNumbered reply number = (number ≡ None) ↔ (reply.status ≡ 500)
+
+-- Where the state of the inbox is known, it is the inbox that answered: the request is the next of its history, and the number is its place there; or
+-- memory ran out, nothing changed, and there is no number. Where the state is not known, there is a number all the same, unless the reply is of 500.
+pub data IsTakenIn (checks : Checks) (known : List (List ℕ)) (request : RequestValue) (reply : Answer) (number : Option ℕ) : Option ServingState → Option ServingState → Type 0 where
+  hidden : (new : Option ServingState) → IsNumbered reply number → IsTakenIn checks known request reply number None new
+  seen : (old new : ServingState) → RequestIsTaken checks known request old reply number new
+      → IsTakenIn checks known request reply number (Some old) (Some new)
 
 -- the bytes that the reader has left, those that the writer holds and the inbox, where they are known, and the requests that were answered
 pub record Ends : Type 0 where
@@ -43,11 +48,12 @@ pub record Ends : Type 0 where
   pub inbox : Option ServingState
   pub given : List AnsweredValue
 
--- The reply to what the reader held: to a request, which is kept with it ("Transactions"); or to bytes that are none ("Standard error
--- response").
+-- The reply to what the reader held: to a request, which is kept with it and its number ("Transactions"); or to bytes that are none ("Standard
+-- error response").
 pub data IsReply (checks : Checks) (known : List (List ℕ)) (beginning : InboxState) (old new : Ends) (reply : Answer) : Type 0 where
-  to_request : (request : RequestValue) → Reads Requests old.left new.left (Request request) → IsInboxReply checks beginning request reply
-      → IsTakenIn checks known request reply old.inbox new.inbox → new.given ≡ with_answered old.given request reply → IsReply checks known beginning old new reply
+  to_request : (request : RequestValue) (number : Option ℕ) → Reads Requests old.left new.left (Request request) → IsInboxReply checks beginning request reply
+      → IsTakenIn checks known request reply number old.inbox new.inbox → new.given ≡ with_answered old.given request reply number
+      → IsReply checks known beginning old new reply
   to_fault : (fault : HttpFault) → IsUnread Requests old.left new.left (unread.Http fault) → reply ≡ reply_to fault → new.inbox ≡ old.inbox → new.given ≡ old.given
       → IsReply checks known beginning old new reply
 

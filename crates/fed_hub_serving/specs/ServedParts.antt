@@ -19,10 +19,11 @@ IsSent old new reply WriteFault = AppendsFront old new (reply_bytes reply)
 IsSent old new reply ReadFault = ⊥
 IsSent old new reply EndedEarly = ⊥
 
--- a request was answered: the inbox's reply to it was sent, and both are kept
+-- a request was answered: the inbox's reply to it was sent, and both are kept with the number
 pub record IsRequestServed (checks : Checks) (known : List (List ℕ)) (beginning : InboxState) (request : RequestValue) (inbox inbox' : Option ServingState) (given given' : List AnsweredValue) (old new : Option (List ℕ)) (served : Served) : Type 0 where
   pub reply : Answer
+  pub number : Option ℕ
   pub of_inbox : IsInboxReply checks beginning request reply
-  pub taken : IsTakenIn checks known request reply inbox inbox'
-  pub kept : given' ≡ with_answered given request reply
+  pub taken : IsTakenIn checks known request reply number inbox inbox'
+  pub kept : given' ≡ with_answered given request reply number
   pub sent : IsSent old new reply served

@@ -2,11 +2,11 @@
 ghost use Rattle.fed_hub_serving.specs.JudgedRequest.{IsJudged};
 ghost use Rattle.fed_hub_serving.specs.Served.{IsInboxReply, IsTakenIn};
 
+use crate::inbox_reply::InboxReply;
 use crate::judged_request::JudgedRequest;
 use crate::kept_inbox::KeptInbox;
 use crate::naming::ServingNaming;
 use crate::sections;
-use fed_http::Reply;
 use fed_replies::ReplyStore;
 use std::alloc::Global;
 use std::sync::{Mutex, Wait};
@@ -20,10 +20,10 @@ pub trait InboxAccess<N: ServingNaming> {
     ghost state: { Self → Option ServingState };
 
     /// Answers a request that was judged apart from the inbox, as `sections::take` does.
-    fn take<R: Wait>(&mut self, rt: &R, alloc: Global, judged: JudgedRequest) -> Reply
+    fn take<R: Wait>(&mut self, rt: &R, alloc: Global, judged: JudgedRequest) -> InboxReply
         requires { IsJudged N.checks N.receiver N.known judged }
-        ensures reply { IsInboxReply N.checks N.beginning judged.request result }
-        ensures taken { IsTakenIn N.checks N.known judged.request result (state self.old) (state self.new) };
+        ensures reply { IsInboxReply N.checks N.beginning judged.request result.reply }
+        ensures taken { IsTakenIn N.checks N.known judged.request result.reply result.number (state self.old) (state self.new) };
 }
 
 /// An inbox under its lock.
@@ -37,7 +37,7 @@ impl<N: ServingNaming, S: ReplyStore> InboxAccess<N> for LockedInbox<'_, N, S> {
 
     ghost state = { λ _. None };
 
-    fn take<R: Wait>(&mut self, rt: &R, alloc: Global, judged: JudgedRequest) -> Reply {
+    fn take<R: Wait>(&mut self, rt: &R, alloc: Global, judged: JudgedRequest) -> InboxReply {
         sections::take(rt, alloc, &mut self.inbox.lock(rt), judged)
     }
 }
@@ -47,7 +47,7 @@ impl<N: ServingNaming, S: ReplyStore> InboxAccess<N> for KeptInbox<N, S> {
 
     ghost state = { λ inbox. Some inbox };
 
-    fn take<R: Wait>(&mut self, rt: &R, alloc: Global, judged: JudgedRequest) -> Reply {
+    fn take<R: Wait>(&mut self, rt: &R, alloc: Global, judged: JudgedRequest) -> InboxReply {
         sections::take(rt, alloc, self, judged)
     }
 }

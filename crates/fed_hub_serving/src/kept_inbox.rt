@@ -10,6 +10,7 @@ ghost use Rattle.fed_hub_serving.specs.Sections.{RequestIsTaken, IsServed};
 use crate::answering::{Answered, answer};
 use crate::bound::Bound;
 use crate::end_place::EndPlace;
+use crate::inbox_reply::InboxReply;
 use crate::judged_request::JudgedRequest;
 use crate::kept_point::KeptPoint;
 use crate::naming::ServingNaming;
@@ -82,8 +83,8 @@ impl<N: ServingNaming, S: ReplyStore> KeptInbox<N, S> {
         &self.inbox
     }
 
-    /// The history of the requests that it answered, in order; those that it answered 500 are not among them. It is the inbox after these
-    /// requests.
+    /// The history of the requests that it answered, in order and numbered from 1; those that it answered 500 are not among them. It is the
+    /// inbox after these requests.
     pub fn points(&self) -> &[KeptPoint]
         ensures points { result.now ≡ self.now.points }
         ensures history { IsKeptFrom N.checks N.beginning self.now }
@@ -108,15 +109,27 @@ impl<N: ServingNaming, S: ReplyStore> KeptInbox<N, S> {
     }
 
     /// Answers a request that was judged apart from the inbox, keeps it with its reply among the history, and sends the events that it brings
-    /// over the wires to their rooms. Where memory runs out it answers 500, and all is as it was.
-    pub(crate) fn take<R: Wait>(&mut self, rt: &R, alloc: Global, judged: JudgedRequest) -> Reply
+    /// over the wires to their rooms. With the reply it gives the number of the new point. Where memory runs out it answers 500 without a
+    /// number, and all is as it was.
+    pub(crate) fn take<R: Wait>(
+        &mut self,
+        rt: &R,
+        alloc: Global,
+        judged: JudgedRequest,
+    ) -> InboxReply
         requires { IsJudged N.checks N.receiver N.known judged }
-        ensures taken { RequestIsTaken N.checks N.known judged.request self.old result self.new }
+        ensures taken { RequestIsTaken N.checks N.known judged.request self.old result.reply result.number self.new }
         ensures history { IsKeptFrom N.checks N.beginning self.old }
     {
-        match self.serve(rt, alloc, judged) {
-            Ok(reply) => reply,
-            Err(NoMemory) => Reply::from(Refusal::OutOfMemory),
+        let Ok(reply) = self.serve(rt, alloc, judged) else {
+            return InboxReply {
+                reply: Reply::from(Refusal::OutOfMemory),
+                number: None,
+            };
+        };
+        InboxReply {
+            reply,
+            number: Some(self.points.len() as u64),
         }
     }
 

@@ -5,6 +5,7 @@
 //! - `naming`: `ServingNaming`, the names by which contracts know the rooms, their wires, and what the server's inbox began with
 //! - `kept_inbox`: `KeptInbox`, the inbox, its history and the wires
 //! - `kept_point`: `KeptPoint`, a request with its reply and the events that it brought
+//! - `inbox_reply`: `InboxReply`, the reply to a request, and the number of its point in the history
 //! - `room_wires`: the ends that send of the rooms' wires, and how events go over them
 //! - `room_wire`: `EndedWire`, a wire that has ended; `end_place`: `EndPlace`, where
 //! - `judged_request`: `JudgedRequest`, a request that was read and judged apart from the inbox
@@ -20,6 +21,7 @@ mod access;
 mod answering;
 mod bound;
 mod end_place;
+mod inbox_reply;
 mod judged_request;
 mod kept_inbox;
 mod kept_point;
@@ -33,6 +35,7 @@ mod serving;
 
 pub use access::{InboxAccess, LockedInbox};
 pub use end_place::EndPlace;
+pub use inbox_reply::InboxReply;
 pub use judged_request::JudgedRequest;
 pub use kept_inbox::KeptInbox;
 pub use kept_point::KeptPoint;

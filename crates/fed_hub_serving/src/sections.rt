@@ -5,25 +5,25 @@ ghost use Rattle.fed_hub_serving.specs.JudgedRequest.{IsJudged};
 ghost use Rattle.fed_hub_serving.specs.Serving.{IsKeptFrom};
 ghost use Rattle.fed_hub_serving.specs.Sections.{RequestIsTaken};
 
+use crate::inbox_reply::InboxReply;
 use crate::judged_request::JudgedRequest;
 use crate::kept_inbox::KeptInbox;
 use crate::naming::ServingNaming;
-use fed_http::Reply;
 use fed_replies::ReplyStore;
 use std::alloc::Global;
 use std::sync::Wait;
 
 /// Take: a request that was judged apart from the inbox is answered. Where its transaction was taken before it gets the kept reply; else it is
-/// taken where it is to be, and its events go over the wires to their rooms. The request is kept with its reply; but where memory runs out the
-/// answer is 500, and all is as it was.
+/// taken where it is to be, and its events go over the wires to their rooms. The request is kept with its reply as a point of the history, and
+/// the point's number is given; but where memory runs out the answer is 500, without a number, and all is as it was.
 pub fn take<N: ServingNaming, S: ReplyStore, R: Wait>(
     rt: &R,
     alloc: Global,
     inbox: &mut KeptInbox<N, S>,
     judged: JudgedRequest,
-) -> Reply
+) -> InboxReply
     requires { IsJudged N.checks N.receiver N.known judged }
-    ensures taken { RequestIsTaken N.checks N.known judged.request inbox.old result inbox.new }
+    ensures taken { RequestIsTaken N.checks N.known judged.request inbox.old result.reply result.number inbox.new }
     ensures history { IsKeptFrom N.checks N.beginning inbox.old }
 {
     inbox.take(rt, alloc, judged)

@@ -2,17 +2,19 @@
 ghost use Rattle.std.specs.Prelude.{◌≡◌, ◌<◌, [], ◌++◌, ◌∷◌, IfOk, length, vec_capacity};
 ghost use Rattle.fed_hub_serving.specs.Answered.{answered_by, with_answered};
 
+use crate::inbox_reply::InboxReply;
 use crate::naming::ServingNaming;
 use fed_http::{Reply, Request};
 use fed_json::NoMemory;
 use std::alloc::Global;
 use std::marker::{Model, PhantomData};
 
-/// A request that a server answered, with its reply.
+/// A request that a server answered, with its reply, and the number of its point in the history of the inbox.
 #[derive(Drop)]
 pub struct AnsweredRequest {
     request: Request,
     reply: Reply,
+    number: u64,
 }
 
 impl Model for AnsweredRequest {
@@ -22,14 +24,18 @@ impl Model for AnsweredRequest {
 
     ghost coded = { answered_code };
 
-    ghost view = { λ a. record { request = a.request; reply = a.reply } };
+    ghost view = { λ a. record { request = a.request; reply = a.reply; number = a.number } };
 }
 
 impl AnsweredRequest {
-    pub(crate) fn new(request: Request, reply: Reply) -> AnsweredRequest
-        ensures { result ≡ answered_by request reply }
+    pub(crate) fn new(request: Request, reply: Reply, number: u64) -> AnsweredRequest
+        ensures { result ≡ answered_by request reply number }
     {
-        AnsweredRequest { request, reply }
+        AnsweredRequest {
+            request,
+            reply,
+            number,
+        }
     }
 
     /// The request.
@@ -45,10 +51,17 @@ impl AnsweredRequest {
     {
         &self.reply
     }
+
+    /// The number of its point in the history of the inbox, from 1.
+    pub fn number(&self) -> u64
+        ensures { result ≡ self.now.number }
+    {
+        self.number
+    }
 }
 
-/// What a thread that serves holds: the requests that it answered, each with its reply, in order; those that it answered 500 are not among
-/// them.
+/// What a thread that serves holds: the requests that it answered, each with its reply and the number of its point, in order; those that it
+/// answered 500 are not among them.
 ///
 /// Contracts see it as these.
 #[derive(Drop)]
@@ -102,13 +115,16 @@ pub(crate) fn make_room(
     request.copy(alloc)
 }
 
-/// Keeps a request that was answered, for which there is room; but not one that was answered 500.
-pub(crate) fn keep(answered: &mut Vec<AnsweredRequest>, request: Request, reply: Reply)
+/// Keeps a request that was answered, for which there is room, with the number of its point; but not one that has none.
+pub(crate) fn keep(answered: &mut Vec<AnsweredRequest>, request: Request, answer: InboxReply)
     requires { length answered.old.items < vec_capacity answered.old }
-    ensures { answered.new.items ≡ with_answered answered.old.items request reply }
+    ensures { answered.new.items ≡ with_answered answered.old.items request answer.reply answer.number }
 {
-    if reply.status() != 500 {
+    let InboxReply { reply, number } = answer;
+    if let Some(number) = number {
         // There is room for it.
-        answered.push(AnsweredRequest::new(request, reply)).unwrap();
+        answered
+            .push(AnsweredRequest::new(request, reply, number))
+            .unwrap();
     }
 }

@@ -4,6 +4,7 @@ ghost use Rattle.fed_hub_serving.specs.Served.{IsInboxReply, IsServed, IsTakenIn
 ghost use Rattle.fed_hub_serving.specs.ServedParts.{IsSent, IsRequestServed};
 
 use crate::access::InboxAccess;
+use crate::inbox_reply::InboxReply;
 use crate::judged_request::JudgedRequest;
 use crate::naming::ServingNaming;
 use crate::serve_token::{ServeToken, keep, make_room};
@@ -27,8 +28,8 @@ pub struct ServingDesk<'a, K: Keys> {
 
 /// Reads one request off a reader, answers it, and writes the reply (Matrix, Server-Server API, "Transactions"). Bytes that are no request are
 /// answered 400 or 413. Where memory runs out the answer is 500, and the inbox is as it was. The request is judged before the inbox is locked,
-/// and the lock is let go before the reply is written. A request that was answered is kept in the token with its reply, unless the reply is of
-/// 500; and also where the reply could not be written: the transaction is taken then.
+/// and the lock is let go before the reply is written. A request that was answered is kept in the token with its reply and the number of its
+/// point in the history, unless the reply is of 500; and also where the reply could not be written: the transaction is taken then.
 ///
 /// What it tells:
 ///
@@ -88,13 +89,13 @@ where
     let Ok(copy) = make_room(alloc, &mut token.answered, &request) else {
         return send(writer, &Reply::from(Refusal::OutOfMemory));
     };
-    let reply = answer(rt, alloc, desk, inbox, request);
-    let served = send(writer, &reply);
-    keep(&mut token.answered, copy, reply);
+    let answer = answer(rt, alloc, desk, inbox, request);
+    let served = send(writer, &answer.reply);
+    keep(&mut token.answered, copy, answer);
     served
 }
 
-// The reply to a request, which is judged apart from the inbox and then taken.
+// The inbox's reply to a request, which is judged apart from it and then taken.
 #[tactic(auto, using(crate::proofs::Replies::replied_to, crate::proofs::Replies::taken_for))]
 fn answer<N, D, K, T>(
     rt: &T,
@@ -102,7 +103,7 @@ fn answer<N, D, K, T>(
     desk: &ServingDesk<'_, K>,
     inbox: &mut D,
     request: Request,
-) -> Reply
+) -> InboxReply
 where
     N: ServingNaming,
     D: InboxAccess<N>,
@@ -111,8 +112,8 @@ where
     requires checks { K.checks desk.now.keys.now ≡ N.checks }
     requires receiver { desk.now.receiver.now ≡ N.receiver }
     requires known { map string_bytes desk.now.known.now ≡ N.known }
-    ensures reply { IsInboxReply N.checks N.beginning request result }
-    ensures taken { IsTakenIn N.checks N.known request result (D.state inbox.old) (D.state inbox.new) }
+    ensures reply { IsInboxReply N.checks N.beginning request result.reply }
+    ensures taken { IsTakenIn N.checks N.known request result.reply result.number (D.state inbox.old) (D.state inbox.new) }
 {
     let judged = JudgedRequest::new(alloc, desk.receiver, desk.known, request, desk.keys);
     inbox.take(rt, alloc, judged)

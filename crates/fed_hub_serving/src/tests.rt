@@ -1,4 +1,4 @@
-// Requests off readers that end or fail, and their replies to writers that fail.
+// Requests off readers that end or fail, their replies to writers that fail, and their numbers in the history.
 ghost use Rattle.std.specs.Prelude.{◌≡◌, [], IfOk, IfSome};
 ghost use Rattle.fed_inbox.specs.Receiver.{IsInboxOf};
 
@@ -70,6 +70,14 @@ impl Write for Output {
     }
 }
 
+// An input that ends behind its bytes.
+fn plain(bytes: &[u8]) -> Input<'_> {
+    Input {
+        bytes,
+        broken: false,
+    }
+}
+
 // The inbox of b.example, which takes from a.example and knows no room, and what receives its requests.
 fn server(alloc: Global) -> Option<(Inbox<ListStore>, Receiver)>
     ensures { IfSome result (λ s. IsInboxOf s.1 s.0.state) }
@@ -127,6 +135,35 @@ fn serve<N: ServingNaming, K: Keys, T: Wait>(
     };
     let served = serve_one(rt, alloc, desk, inbox, token, &mut input, &mut output);
     (served, output.bytes)
+}
+
+// The requests that a thread answered have these numbers.
+fn has_numbers<N: ServingNaming>(token: &ServeToken<N>, numbers: &[u64]) -> bool {
+    token
+        .answered()
+        .iter()
+        .map(|answered| answered.number())
+        .eq(numbers.iter().copied())
+}
+
+// Each request that a thread answered is the point of its number, with the reply.
+fn are_points<N: ServingNaming>(points: &[KeptPoint], token: &ServeToken<N>) -> bool {
+    token
+        .answered()
+        .iter()
+        .all(|answered| is_point(points, answered))
+}
+
+fn is_point(points: &[KeptPoint], answered: &AnsweredRequest) -> bool {
+    let Some(place) = answered.number().checked_sub(1) else {
+        return false;
+    };
+    points.get(place as usize).is_some_and(|point| {
+        point.request().target() == answered.request().target()
+            && point.request().body() == answered.request().body()
+            && point.reply().status() == answered.reply().status()
+            && point.reply().body() == answered.reply().body()
+    })
 }
 
 // The transaction comes ten times, and its reply can be written whole at the last; then come bytes that are no request, or too few.
@@ -191,6 +228,8 @@ fn run<N: ServingNaming, K: Keys, T: Wait + Abort>(
     assert_eq!(rt; token.answered().len(), 10);
     let kept = shared.lock(rt);
     assert_eq!(rt; kept.points().len(), 10);
+    assert!(rt; has_numbers(&token, &[1, 2, 3, 4, 5, 6, 7, 8, 9, 10]));
+    assert!(rt; are_points(kept.points(), &token));
     let mut edus = kept.inbox().taken_edus("a.example");
     assert_eq!(rt;
         edus.next(),
@@ -211,4 +250,62 @@ fn a_transaction_is_served_and_taken_once(rt: HostRuntime) -> Result<(), Fail> {
         panic!(rt; "no request");
     };
     run::<Brand, _, _>(&rt, alloc, inbox, &receiver, &keys, &request)
+}
+
+// The transaction comes to two threads, and after bytes that are no request it comes to the one again.
+fn run_two<N: ServingNaming, K: Keys, T: Wait + Abort>(
+    rt: &T,
+    alloc: Global,
+    inbox: Inbox<ListStore>,
+    receiver: &Receiver,
+    keys: &K,
+    request: &[u8],
+) -> Result<(), Fail>
+    requires checks { K.checks keys.now ≡ N.checks }
+    requires receiver { receiver.now ≡ N.receiver }
+    requires server { IsInboxOf N.receiver inbox.state }
+    requires beginning { inbox.state ≡ N.beginning }
+    requires rooms { (N.known ≡ []) × (N.rooms ≡ []) }
+{
+    let shared = Mutex::new(KeptInbox::<N, ListStore>::new(alloc, inbox, Vec::new(alloc))?);
+    let mut inbox = LockedInbox { inbox: &shared };
+    let desk = ServingDesk {
+        receiver,
+        known: &[],
+        keys,
+    };
+    let mut one = ServeToken::new(alloc);
+    let mut other = ServeToken::new(alloc);
+    serve(rt, alloc, &desk, &mut inbox, &mut one, plain(request), 9);
+    serve(rt, alloc, &desk, &mut inbox, &mut other, plain(request), 9);
+    serve(
+        rt,
+        alloc,
+        &desk,
+        &mut inbox,
+        &mut one,
+        plain(b"no request\r\n\r\n"),
+        9,
+    );
+    serve(rt, alloc, &desk, &mut inbox, &mut one, plain(request), 9);
+    assert!(rt; has_numbers(&one, &[1, 3]));
+    assert!(rt; has_numbers(&other, &[2]));
+    let kept = shared.lock(rt);
+    assert_eq!(rt; kept.points().len(), 3);
+    assert!(rt; are_points(kept.points(), &one));
+    assert!(rt; are_points(kept.points(), &other));
+    Ok(())
+}
+
+#[test]
+fn a_transaction_that_comes_again_has_a_number_of_its_own(rt: HostRuntime) -> Result<(), Fail> {
+    let alloc = rt.alloc();
+    let keys = StandIn::new(String::from_str(alloc, "b.example")?);
+    let Some((inbox, receiver)) = server(alloc) else {
+        panic!(rt; "no server");
+    };
+    let Some(request) = transaction(alloc) else {
+        panic!(rt; "no request");
+    };
+    run_two::<Brand, _, _>(&rt, alloc, inbox, &receiver, &keys, &request)
 }

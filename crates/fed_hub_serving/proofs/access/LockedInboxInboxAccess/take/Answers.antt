@@ -1,12 +1,14 @@
 use Rattle.std.specs.Prelude.{None}
 use Rattle.fed_hub_serving.specs.Served.{hidden}
-use Rattle.fed_hub_serving.proofs.Replies.{replied}
+use Rattle.fed_hub_serving.proofs.Replies.{replied, numbered}
 use Rattle.fed_hub_serving.proofs.access.LockedInboxInboxAccess.take.Goals as goal
 
 pub returns-clause-reply : goal.returns-clause-reply
 returns-clause-reply g c =
     let N = g.N.ServingNaming in
-    replied N.checks N.known N.beginning c.args.judged.request _ c.take.result _ c.take.ensures.history c.take.ensures.taken
+    replied N.checks N.known N.beginning c.args.judged.request _ c.take.result.reply c.take.result.number _ c.take.ensures.history c.take.ensures.taken
 
 pub returns-clause-taken : goal.returns-clause-taken
-returns-clause-taken g c = hidden None
+returns-clause-taken g c =
+    let N = g.N.ServingNaming in
+    hidden None (numbered N.checks N.known N.beginning c.args.judged.request _ c.take.result.reply c.take.result.number _ c.take.ensures.taken)
