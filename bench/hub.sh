@@ -1,37 +1,48 @@
 #!/bin/sh
 # Measures the built program crates/fed_hub_bench/out/fed_hub_bench (after `rt run < stdin` there): events that client threads send through one
-# hub, in turn to eight rooms, to three destinations whose carriers answer 200 from memory.
+# hub, in turn to eight rooms, to three destinations whose carriers answer 200 from memory; and events that threads take from other servers, each
+# from one of its own, while another thread gives them to their room.
 #
-#     bench/hub.sh [RUNS] [EVENTS]
+#     bench/hub.sh [RUNS] [EVENTS] [TRANSACTIONS]
 #
-# Prints for one client and for eight the time of the fastest run, with all delivered, events a second and the peak memory for one event, and
-# then how many times as many events a second eight clients send. Figures of two machines can't be compared.
+# Prints for one thread and for eight the time of the fastest run, events a second and the peak memory for one event (of what is taken, with the
+# requests, which are made before the time is taken), and then how many times as many events a second eight threads send or take; of what is taken
+# also the share of looks at the inbox's lock, in all runs, at which a thread had it. Figures of two machines can't be compared.
 set -e
 here=$(cd "$(dirname "$0")" && pwd)
 program=$here/../crates/fed_hub_bench/out/fed_hub_bench
 [ -x "$program" ] || { echo "no $program: run 'rt run < stdin' in crates/fed_hub_bench first" >&2; exit 2; }
-python3 - "$program" "${1:-5}" "${2:-100000}" <<'PY'
+python3 - "$program" "${1:-5}" "${2:-100000}" "${3:-4000}" <<'PY'
 import os, subprocess, sys, tempfile
-program, runs, events = sys.argv[1], int(sys.argv[2]), int(sys.argv[3])
-rates = []
-for clients in (1, 8):
-    line, times, peak = f"hub {clients} 8 {events}\n", [], 0
+program, runs, events, transactions = sys.argv[1], *map(int, sys.argv[2:])
+
+
+def measure(name, line, wanted, count):
+    times, peak, held, looks = [], 0, 0, 0
     for _ in range(runs):
         with tempfile.TemporaryFile() as told, tempfile.TemporaryFile() as timed, tempfile.TemporaryFile() as lines:
-            lines.write(line.encode())
+            lines.write(f"{line}\n".encode())
             lines.seek(0)
             running = subprocess.Popen([program], stdin=lines, stdout=told, stderr=timed)
             _, status, used = os.wait4(running.pid, 0)
             told.seek(0)
             timed.seek(0)
-            said = told.read().decode().split()
-            wanted = f"sent {events}, delivered {events} {events} {events}".split()
+            said = told.read().decode().strip()
             if status != 0 or said != wanted:
-                sys.exit(f"{program}: status {status}, {' '.join(said)}")
-            times.append(int(timed.read()) / 1e6)
+                sys.exit(f"{program}: {line}: status {status}, {said}")
+            micros, had, looked = map(int, timed.read().split())
+            times.append(micros / 1e6)
+            held, looks = held + had, looks + looked
             peak = max(peak, used.ru_maxrss)
-    rates.append(events / min(times))
-    print(f"{clients} clients, {events} events: least of {runs} runs {min(times) * 1e3:.0f} ms, {rates[-1]:.0f} events/s, "
-          f"{peak * 1024 / events:.0f} bytes/event")
-print(f"eight clients send {rates[1] / rates[0]:.1f} times as many events a second as one")
+    print(f"{name}, {count} events: least of {runs} runs {min(times) * 1e3:.0f} ms, {count / min(times):.0f} events/s, "
+          f"{peak * 1024 / count:.0f} bytes/event" + (f", the inbox's lock is held in {100 * held / looks:.1f}% of {looks} looks" if looks else ""))
+    return count / min(times)
+
+
+one, eight = (measure(f"{it} clients", f"hub {it} 8 {events}", f"sent {events}, delivered {events} {events} {events}", events)
+              for it in (1, 8))
+print(f"eight clients send {eight / one:.1f} times as many events a second as one")
+one, eight = (measure(f"{it} serving threads", f"serve {it} {transactions // it}", f"served {transactions}", transactions * 50)
+              for it in (1, 8))
+print(f"eight threads take {eight / one:.1f} times as many events a second as one")
 PY

@@ -5,6 +5,12 @@ pub mod Waiting
 pub mod Destined
 pub mod Going
 pub mod Loaded
+pub mod Readied
 pub mod Sendings
 pub mod Made
+pub mod Receiving
+pub mod Named
+pub mod Given
+pub mod ServingCrossing
 pub mod Crossing
+pub mod Ending

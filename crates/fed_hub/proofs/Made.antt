@@ -5,20 +5,24 @@ use Rattle.std.specs.Option.{option_map}
 use Rattle.std.proofs.lemmas.Option.{slice_get-map}
 use Rattle.std.proofs.lemmas.Slice.Eq.{bytes_eq-Decides}
 use Rattle.fed_dest.specs.List.{place_of}
-use Rattle.fed_journal.specs.declared.parcel.Parcel.{Parcel}
 use Rattle.fed_wires.specs.SendEnd.{Sender, new_sender}
 use Rattle.fed_wires.specs.WireId.{WireId}
-use Rattle.fed_hub.specs.Opened.{new_senders}
 use Rattle.fed_hub.specs.Setup.{has_own_fault}
+use Rattle.fed_hub.specs.Wires.{new_senders}
 
-unused_at : (e : Sender Parcel) (o : Option (WireId Parcel)) → option_map (λ (w : WireId Parcel). new_sender w) o ≡ Some e → e.sent ≡ []
+-- nothing went over a wire, and nothing came back
+pub record IsUnused {T : Type 0} (e : Sender T) : Type 0 where
+  pub sent : e.sent ≡ []
+  pub returned : e.returned ≡ 0
+
+unused_at : {T : Type 0} (e : Sender T) (o : Option (WireId T)) → option_map (λ (w : WireId T). new_sender w) o ≡ Some e → IsUnused e
 unused_at e None is = absurd (cc)
-unused_at e (Some w) is =
+unused_at {T} e (Some w) is =
     let same : new_sender w ≡ e = cc in
-    ap (λ (x : Sender Parcel). x.sent) (sym same)
+    record { sent = ap (λ (x : Sender T). x.sent) (sym same); returned = ap (λ (x : Sender T). x.returned) (sym same) }
 
-pub unused : (wires : List (WireId Parcel)) (d : ℕ) (e : Sender Parcel) → slice_get (new_senders wires) d ≡ Some e → e.sent ≡ []
-unused wires d e at = unused_at e (slice_get wires d) (sym (slice_get-map (λ (w : WireId Parcel). new_sender w) wires d) ∙ at)
+pub unused : {T : Type 0} (wires : List (WireId T)) (k : ℕ) (e : Sender T) → slice_get (new_senders wires) k ≡ Some e → IsUnused e
+unused {T} wires k e at = unused_at e (slice_get wires k) (sym (slice_get-map (λ (w : WireId T). new_sender w) wires k) ∙ at)
 
 third : (a b c : Bool) → (a || (not b || not c)) ≡ false → c ≡ true
 third a b true is = refl

@@ -1,6 +1,7 @@
 -- What is told of an event, and what its room is then.
-use Rattle.std.proofs.Common.{arith, ◌≡◌, ◌⊎◌, inl, inr, ◌+◌, ℕ, List, Bool, true, false, true≢false, if◌then◌else◌, Result, Ok, Err, refl, sym, ap, ◌∙◌}
-use Rattle.std.specs.Result.{IsErr, IsErrAnd}
+use Rattle.std.proofs.Common.{arith, ◌≡◌, ◌⊎◌, inl, inr, ◌+◌, ◌++◌, ◌∷◌, [], length, length-append, ℕ, List, Bool, true, false, true≢false, if◌then◌else◌, Result, Ok, Err, refl, sym, ap, ◌∙◌, subst}
+use Rattle.std.specs.Result.{IfOk, IsErr, IsErrAnd}
+use Rattle.std.specs.declared.alloc.AllocError.{AllocError}
 use Rattle.fed_event.specs.Checked.{CheckedEvent}
 use Rattle.fed_dest.specs.Joined.{AreDestinations}
 use Rattle.fed_journal.specs.declared.entry.Entry.{Entry}
@@ -20,10 +21,12 @@ use Rattle.fed_hub_state.specs.Sections.{EventIsOffered, EduIsOffered}
 use Rattle.serde_json.specs.Data.{Data}
 use Rattle.fed_hub_state.specs.SendingJournal.{SendingState}
 use Rattle.fed_hub.specs.declared.faults.SendFault.{SendFault}
-use Rattle.fed_hub.specs.declared.faults.SendFault.TheVariants as send
 use Rattle.fed_hub.specs.declared.offering.Sent.{Sent}
 use Rattle.fed_hub.specs.Faults.{fault_of_entering}
-use Rattle.fed_hub.specs.Offering.{IsSentIn, one_event_more}
+use Rattle.fed_hub_told.specs.declared.told_event.ToldEvent.{ToldEvent}
+use Rattle.fed_hub_told.specs.Told.{ToldState, with_event}
+use Rattle.fed_hub.specs.ClientToken.{IsToldNothing, IsToldOf, share_of}
+use Rattle.fed_hub.specs.Offering.{IsSentIn, told_of}
 
 pub err_is : (told : Result Sent SendFault) (fault : SendFault) → IsErr told → IsErrAnd told (λ t. t ≡ fault) → told ≡ Err fault
 err_is (Ok n) fault errs is = absurd (true≢false (sym errs))
@@ -58,6 +61,10 @@ stored_so signer servers own draft lost room entries _ _ _ number event reached 
 stored_so signer servers own draft lost room entries _ _ _ number event reached (no_place p dests made full) is = absurd (true≢false (sym (ap was_sent is)))
 stored_so signer servers own draft lost room entries _ _ _ number event reached (sent p dests made fits are) is = ap (λ t. committed room (event_in event t)) is
 
+-- with one event more, or one EDU
+abbrev pub one_event_more : ClientShare → ClientShare
+one_event_more client = record { parts = client.parts; events = client.events + 1; edus = client.edus }
+
 pub is_sent : (signer : Signer) (draft : DraftFields) (servers : List (List ℕ)) (own : ℕ) (room ready stored : RoomState) (client after : ClientShare) (p : PreparedEvent) (dests : List ℕ) (old new : SendingState) (number : ℕ)
     → prepared_of room_rules signer room.stored draft ≡ Ok p → is_ready room.stored p.event.event ≡ true → AreDestinations ready.stored p.before servers own dests → ready ≡ room
     → EventIsOffered p dests ready old client (Ok number) stored new after → (stored ≡ committed room p.event) × (after ≡ one_event_more client)
@@ -72,27 +79,46 @@ is_sent signer draft servers own room ready stored client after p dests old new 
       offered.2.2 ∙ (λ i. record { parts = client.parts; events = client.events + 1; edus = zero i }),
     )
 
-pub not_sent : (signer : Signer) (draft : DraftFields) (room stored : KeptState) (ready : RoomState) (client after : ClientShare) (p : PreparedEvent) (dests : List ℕ) (old new : SendingState) (fault : EnterFault)
-    → prepared_of room_rules signer (room_of room.room).stored draft ≡ Ok p → ready ≡ room_of room.room
-    → EventIsOffered p dests ready old client (Err fault) (room_of stored.room) new after → IsSentIn signer draft room client (Err (fault_of_entering fault)) stored after
-not_sent signer draft room stored ready client after p dests old new enter.Memory prepared same offered = (own_user signer (room_of room.room) draft p prepared, (offered.1 ∙ same, offered.3))
-not_sent signer draft room stored ready client after p dests old new enter.ShutDown prepared same offered = (p, prepared, (offered.1 ∙ same, offered.3))
-not_sent signer draft room stored ready client after p dests old new enter.Limit prepared same offered = (p, prepared, (offered.1 ∙ same, offered.3))
+pub not_sent : (signer : Signer) (draft : DraftFields) (room stored : KeptState) (ready : RoomState) (share after : ClientShare) (client told : ToldState) (p : PreparedEvent) (dests : List ℕ) (old new : SendingState) (fault : EnterFault)
+    → prepared_of room_rules signer (room_of room.room).stored draft ≡ Ok p → ready ≡ room_of room.room → IsToldNothing client told
+    → EventIsOffered p dests ready old share (Err fault) (room_of stored.room) new after → IsSentIn signer draft room client (Err (fault_of_entering fault)) stored told
+not_sent signer draft room stored ready share after client told p dests old new enter.Memory prepared same nothing offered = (own_user signer (room_of room.room) draft p prepared, (offered.1 ∙ same, nothing))
+not_sent signer draft room stored ready share after client told p dests old new enter.ShutDown prepared same nothing offered = (p, prepared, (offered.1 ∙ same, nothing))
+not_sent signer draft room stored ready share after client told p dests old new enter.Limit prepared same nothing offered = (p, prepared, (offered.1 ∙ same, nothing))
 
--- ---- a token keeps its parts
+-- ---- what a client was told, and its share
 
-pub parts_stay : (signer : Signer) (draft : DraftFields) (room : KeptState) (client : ClientShare) (told : Result Sent SendFault) (stored : KeptState) (after : ClientShare) → IsSentIn signer draft room client told stored after → after.parts ≡ client.parts
-parts_stay signer draft room client (Ok s) stored after is = ap (λ (c : ClientShare). c.parts) is.4
-parts_stay signer draft room client (Err send.UnknownRoom) stored after is = absurd is
-parts_stay signer draft room client (Err send.NotOwnUser) stored after is = ap (λ (c : ClientShare). c.parts) is.1.1
-parts_stay signer draft room client (Err (send.BadDraft fault)) stored after is = ap (λ (c : ClientShare). c.parts) is.1.1
-parts_stay signer draft room client (Err (send.NotAllowed rule)) stored after is = ap (λ (c : ClientShare). c.parts) is.1.1
-parts_stay signer draft room client (Err send.ShutDown) stored after is = ap (λ (c : ClientShare). c.parts) is.2.1
-parts_stay signer draft room client (Err send.Limit) stored after is = ap (λ (c : ClientShare). c.parts) is.2.1
-parts_stay signer draft room client (Err send.Memory) stored after is = ap (λ (c : ClientShare). c.parts) is.1.1
+-- what is offered and refused leaves the share as it was
+pub share_stays : (p : PreparedEvent) (dests : List ℕ) (room stored : RoomState) (old new : SendingState) (share after : ClientShare) (fault : EnterFault) → EventIsOffered p dests room old share (Err fault) stored new after → after ≡ share
+share_stays p dests room stored old new share after enter.Memory offered = offered.3
+share_stays p dests room stored old new share after enter.ShutDown offered = offered.3
+share_stays p dests room stored old new share after enter.Limit offered = offered.3
 
-pub edu_parts_stay : (value : Data) (dests : List ℕ) (old : SendingState) (client : ClientShare) (told : Result ℕ EnterFault) (new : SendingState) (after : ClientShare) → EduIsOffered value dests old client told new after → after.parts ≡ client.parts
-edu_parts_stay value dests old client (Ok number) new after is = ap (λ (c : ClientShare). c.parts) is.2.3
-edu_parts_stay value dests old client (Err enter.Limit) new after is = ap (λ (c : ClientShare). c.parts) is.3
-edu_parts_stay value dests old client (Err enter.ShutDown) new after is = ap (λ (c : ClientShare). c.parts) is.2
-edu_parts_stay value dests old client (Err enter.Memory) new after is = ap (λ (c : ClientShare). c.parts) is.2
+pub edu_share_stays : (value : Data) (dests : List ℕ) (old new : SendingState) (share after : ClientShare) (fault : EnterFault) → EduIsOffered value dests old share (Err fault) new after → after ≡ share
+edu_share_stays value dests old new share after enter.Memory offered = offered.2
+edu_share_stays value dests old new share after enter.ShutDown offered = offered.2
+edu_share_stays value dests old new share after enter.Limit offered = offered.3
+
+pub told_so : (client old told new : ToldState) (draft one : DraftFields) (copy : Result DraftFields AllocError) (number : ℕ) (event_id same_id : List ℕ) → old ≡ client → IfOk copy (λ d. d ≡ draft) → copy ≡ Ok one → same_id ≡ event_id
+    → told.events ≡ old.events → told.edus ≡ old.edus → new ≡ with_event told (record { draft = one; number = number; event_id = same_id })
+    → IsToldOf (told_of draft (record { number = number; event_id = event_id })) client new
+told_so client old told new draft one copy number event_id same_id was equal is same events edus noted =
+    let copied : one ≡ draft = subst (λ c. IfOk c (λ d. d ≡ draft)) is equal in
+    record {
+      events = ap (λ (t : ToldState). t.events) noted
+          ∙ (λ i. (events ∙ ap (λ (t : ToldState). t.events) was) i ++ (record { draft = copied i; number = number; event_id = same i }) ∷ []);
+      edus = ap (λ (t : ToldState). t.edus) noted ∙ edus ∙ ap (λ (t : ToldState). t.edus) was;
+    }
+
+pub nothing_so : (client old told : ToldState) → old ≡ client → told.events ≡ old.events → told.edus ≡ old.edus → IsToldNothing client told
+nothing_so client old told was events edus = record { events = events ∙ ap (λ (t : ToldState). t.events) was; edus = edus ∙ ap (λ (t : ToldState). t.edus) was }
+
+-- a share and what was told go on together
+pub share_so : (old told : ToldState) (share after : ClientShare) → share ≡ share_of old → told.events ≡ old.events → told.edus ≡ old.edus → after ≡ share → after ≡ share_of told
+share_so old told share after is events edus same = same ∙ is ∙ (λ i. record { parts = 1; events = length (sym events i); edus = length (sym edus i) })
+
+pub share_grows : (old told new : ToldState) (event : ToldEvent) (share after : ClientShare) → share ≡ share_of old → told.events ≡ old.events → told.edus ≡ old.edus → new ≡ with_event told event → after ≡ one_event_more share → after ≡ share_of new
+share_grows old told new event share after is events edus noted more =
+    let longer = ap (λ (t : ToldState). length t.events) noted ∙ length-append told.events (event ∷ []) ∙ ap (λ xs. length xs + 1) events in
+    let as_long = ap (λ (t : ToldState). length t.edus) noted ∙ ap length edus in
+    more ∙ (λ i. record { parts = (is i).parts; events = (is i).events + 1; edus = (is i).edus }) ∙ (λ i. record { parts = 1; events = sym longer i; edus = sym as_long i })

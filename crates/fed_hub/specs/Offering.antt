@@ -1,5 +1,5 @@
 -- What a hub tells of what clients offer, and what their tokens are then.
-use Rattle.std.specs.Prelude.{◌≡◌, ◌+◌, ℕ, true, false, None, Some, Result, Ok, Err}
+use Rattle.std.specs.Prelude.{◌≡◌, ℕ, List, true, false, None, Some, Result, Ok, Err}
 use Rattle.serde_json.specs.Data.{Data}
 use Rattle.fed_event.specs.EventId.{event_id_of}
 use Rattle.fed_room_contract.specs.declared.refusal.Refusal.TheVariants as refusal
@@ -9,8 +9,10 @@ use Rattle.fed_room_contract.specs.Room.{committed}
 use Rattle.fed_room.specs.Room.{room_of, room_rules}
 use Rattle.fed_journal.specs.declared.edu.EduFault.TheVariants as faulty
 use Rattle.fed_journal.specs.Edu.{is_edu, edu_fault_of}
-use Rattle.fed_hub_state.specs.ClientToken.{ClientShare}
 use Rattle.fed_hub_state.specs.KeptRoom.{KeptState}
+use Rattle.fed_hub_told.specs.declared.told_event.ToldEvent.{ToldEvent}
+use Rattle.fed_hub_told.specs.Told.{ToldState}
+use Rattle.fed_hub.specs.ClientToken.{IsToldNothing, IsToldOf, IsToldOfEdu}
 use Rattle.fed_hub.specs.declared.faults.SendFault.{SendFault}
 use Rattle.fed_hub.specs.declared.faults.SendFault.TheVariants as send
 use Rattle.fed_hub.specs.declared.faults.EduFault.{EduFault}
@@ -19,38 +21,35 @@ use Rattle.fed_hub.specs.declared.offering.Sent.{Sent}
 use Rattle.fed_hub.specs.Hub.{HubShape}
 use Rattle.fed_hub.specs.Setup.{has_room}
 
--- told of one event, or of one EDU, more
-abbrev pub one_event_more : ClientShare → ClientShare
-one_event_more client = record { parts = client.parts; events = client.events + 1; edus = client.edus }
-
-abbrev pub one_edu_more : ClientShare → ClientShare
-one_edu_more client = record { parts = client.parts; events = client.events; edus = client.edus + 1 }
+-- what the client is told of an event that it sent: the draft, and its number and id
+abbrev pub told_of : DraftFields → Sent → ToldEvent
+told_of draft sent = record { draft = draft; number = sent.number; event_id = sent.event_id }
 
 -- the hub has the draft's room, and the sender is a user of its server
 abbrev pub IsOfHub : HubShape → DraftFields → Type 0
 IsOfHub hub draft = (has_room hub.rooms draft.room ≡ true) × (is_own_user hub.name draft.sender ≡ true)
 
--- of a draft: only who is told a number is told of an event
-abbrev pub IsSent : HubShape → DraftFields → ClientShare → Result Sent SendFault → ClientShare → Type 0
-IsSent hub draft client (Ok sent) after = IsOfHub hub draft × (after ≡ one_event_more client)
-IsSent hub draft client (Err send.UnknownRoom) after = (has_room hub.rooms draft.room ≡ false) × (after ≡ client)
-IsSent hub draft client (Err send.NotOwnUser) after = (has_room hub.rooms draft.room ≡ true) × (is_own_user hub.name draft.sender ≡ false) × (after ≡ client)
-IsSent hub draft client (Err (send.BadDraft fault)) after = IsOfHub hub draft × (after ≡ client)
-IsSent hub draft client (Err (send.NotAllowed rule)) after = IsOfHub hub draft × (after ≡ client)
-IsSent hub draft client (Err send.ShutDown) after = IsOfHub hub draft × (after ≡ client)
-IsSent hub draft client (Err send.Limit) after = IsOfHub hub draft × (after ≡ client)
-IsSent hub draft client (Err send.Memory) after = IsOfHub hub draft × (after ≡ client)
+-- of a draft: who is told a number was told of the event, and else of nothing
+abbrev pub IsSent : HubShape → DraftFields → ToldState → Result Sent SendFault → ToldState → Type 0
+IsSent hub draft client (Ok sent) after = IsOfHub hub draft × IsToldOf (told_of draft sent) client after
+IsSent hub draft client (Err send.UnknownRoom) after = (has_room hub.rooms draft.room ≡ false) × IsToldNothing client after
+IsSent hub draft client (Err send.NotOwnUser) after = (has_room hub.rooms draft.room ≡ true) × (is_own_user hub.name draft.sender ≡ false) × IsToldNothing client after
+IsSent hub draft client (Err (send.BadDraft fault)) after = IsOfHub hub draft × IsToldNothing client after
+IsSent hub draft client (Err (send.NotAllowed rule)) after = IsOfHub hub draft × IsToldNothing client after
+IsSent hub draft client (Err send.ShutDown) after = IsOfHub hub draft × IsToldNothing client after
+IsSent hub draft client (Err send.Limit) after = IsOfHub hub draft × IsToldNothing client after
+IsSent hub draft client (Err send.Memory) after = IsOfHub hub draft × IsToldNothing client after
 
--- the room and the token are as they were
-abbrev pub Stays : KeptState → ClientShare → KeptState → ClientShare → Type 0
-Stays room client stored after = (room_of stored.room ≡ room_of room.room) × (after ≡ client)
+-- the room is as it was, and the client was told of nothing
+abbrev pub Stays : KeptState → ToldState → KeptState → ToldState → Type 0
+Stays room client stored after = (room_of stored.room ≡ room_of room.room) × IsToldNothing client after
 
 -- Of a draft in its room: the event that the room makes of it is stored there, and its id is told; or why it is not, by the room's rules, in their
 -- order, or since the journal takes nothing or has no place.
-abbrev pub IsSentIn : Signer → DraftFields → KeptState → ClientShare → Result Sent SendFault → KeptState → ClientShare → Type 0
+abbrev pub IsSentIn : Signer → DraftFields → KeptState → ToldState → Result Sent SendFault → KeptState → ToldState → Type 0
 IsSentIn signer draft room client (Ok sent) stored after =
     (p : PreparedEvent) × (prepared_of room_rules signer (room_of room.room).stored draft ≡ Ok p) × (sent.event_id ≡ event_id_of p.event.event)
-    × (room_of stored.room ≡ committed (room_of room.room) p.event) × (after ≡ one_event_more client)
+    × (room_of stored.room ≡ committed (room_of room.room) p.event) × IsToldOf (told_of draft sent) client after
 IsSentIn signer draft room client (Err send.NotOwnUser) stored after = (prepared_of room_rules signer (room_of room.room).stored draft ≡ Err refusal.NotOwnUser) × Stays room client stored after
 IsSentIn signer draft room client (Err (send.BadDraft fault)) stored after = (prepared_of room_rules signer (room_of room.room).stored draft ≡ Err (refusal.BadDraft fault)) × Stays room client stored after
 IsSentIn signer draft room client (Err (send.NotAllowed rule)) stored after = (prepared_of room_rules signer (room_of room.room).stored draft ≡ Err (refusal.NotAllowed rule)) × Stays room client stored after
@@ -59,12 +58,12 @@ IsSentIn signer draft room client (Err send.Limit) stored after = (p : PreparedE
 IsSentIn signer draft room client (Err send.Memory) stored after = (is_own_user signer.name draft.sender ≡ true) × Stays room client stored after
 IsSentIn signer draft room client (Err send.UnknownRoom) stored after = ⊥
 
--- of an ephemeral data unit
-abbrev pub IsEduOffered : Data → ClientShare → Result ℕ EduFault → ClientShare → Type 0
-IsEduOffered value client (Ok number) after = (edu_fault_of value ≡ None) × (after ≡ one_edu_more client)
-IsEduOffered value client (Err edu.BadEdu) after = (edu_fault_of value ≡ Some faulty.BadEdu) × (after ≡ client)
-IsEduOffered value client (Err edu.TooLarge) after = (edu_fault_of value ≡ Some faulty.TooLarge) × (after ≡ client)
-IsEduOffered value client (Err edu.TooDeep) after = (edu_fault_of value ≡ Some faulty.TooDeep) × (after ≡ client)
-IsEduOffered value client (Err edu.ShutDown) after = (edu_fault_of value ≡ None) × (after ≡ client)
-IsEduOffered value client (Err edu.Limit) after = (edu_fault_of value ≡ None) × (after ≡ client)
-IsEduOffered value client (Err edu.Memory) after = (is_edu value ≡ true) × (after ≡ client)
+-- of an ephemeral data unit, for these destinations
+abbrev pub IsEduOffered : Data → List ℕ → ToldState → Result ℕ EduFault → ToldState → Type 0
+IsEduOffered value dests client (Ok number) after = (edu_fault_of value ≡ None) × IsToldOfEdu (record { edu = value; dests = dests; number = number }) client after
+IsEduOffered value dests client (Err edu.BadEdu) after = (edu_fault_of value ≡ Some faulty.BadEdu) × IsToldNothing client after
+IsEduOffered value dests client (Err edu.TooLarge) after = (edu_fault_of value ≡ Some faulty.TooLarge) × IsToldNothing client after
+IsEduOffered value dests client (Err edu.TooDeep) after = (edu_fault_of value ≡ Some faulty.TooDeep) × IsToldNothing client after
+IsEduOffered value dests client (Err edu.ShutDown) after = (edu_fault_of value ≡ None) × IsToldNothing client after
+IsEduOffered value dests client (Err edu.Limit) after = (edu_fault_of value ≡ None) × IsToldNothing client after
+IsEduOffered value dests client (Err edu.Memory) after = (is_edu value ≡ true) × IsToldNothing client after

@@ -9,12 +9,13 @@ use crate::collected::Collected;
 use crate::hub::Hub;
 use crate::tokens::SenderToken;
 use fed_event::Keys;
+use fed_hub_serving::ServingNaming;
 use fed_hub_state::{Naming, SeatedOutbox, sections};
 use fed_journal::Load;
 use fed_outbox::OutboxFault;
 use std::sync::Wait;
 
-impl<N: Naming, K: Keys + Drop> Hub<N, K> {
+impl<N: Naming + ServingNaming, K: Keys + Drop> Hub<N, K> {
     /// Moves the next parcel for the token's destination from its wire into its outbox. With `wait` it waits for one, where none is in hand,
     /// or until the other end of the wire is gone.
     pub fn collect<R: Wait>(&self, rt: &R, token: &mut SenderToken<N>, wait: bool) -> Collected

@@ -3,6 +3,7 @@ ghost use Rattle.std.specs.Prelude.{◌≡◌};
 ghost use Rattle.fed_hub.specs.Faults.{send_fault_of, fault_of_entering, edu_fault_told, edu_fault_of_entering};
 ghost use Rattle.fed_hub.specs.declared.faults.SendFault.TheVariants as send;
 ghost use Rattle.fed_hub.specs.declared.faults.EduFault.TheVariants as edu;
+ghost use Rattle.fed_hub.specs.declared.faults.FinishFault.TheVariants as finish;
 ghost use Rattle.fed_hub.specs.declared.faults.HubFault.TheVariants as hub;
 
 use fed_event::PduFault;
@@ -141,5 +142,30 @@ impl From<NoMemory> for HubFault {
 
     fn from(_error: NoMemory) -> HubFault {
         HubFault::Memory
+    }
+}
+
+/// Why a hub is not at its end.
+#[derive(Clone, Copy, Debug, PartialEq, Eq, Error)]
+pub enum FinishFault {
+    /// Memory ran out.
+    #[error("out of memory")]
+    Memory,
+    /// A token of the hub is not among those that were given.
+    #[error("a token is missing")]
+    Missing,
+    /// The hub is not shut down.
+    #[error("not shut down")]
+    NotShutDown,
+    /// What lay under the locks and what the threads hold do not fit together.
+    #[error("unequal")]
+    Unequal,
+}
+
+impl From<NoMemory> for FinishFault {
+    ghost from_gives = { λ _ told. told ≡ finish.Memory };
+
+    fn from(_error: NoMemory) -> FinishFault {
+        FinishFault::Memory
     }
 }

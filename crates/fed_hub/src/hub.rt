@@ -1,23 +1,28 @@
 // What the threads of a server share.
-ghost use Rattle.std.specs.Prelude.{◌≡◌, ◌<◌, ◌≤◌, length, slice_index};
+ghost use Rattle.std.specs.Prelude.{◌≡◌, ◌<◌, ◌≤◌, is_some, length, slice_index};
 ghost use Rattle.fed_wires.specs.Seat.{with_load};
+ghost use Rattle.fed_hub.specs.Setup.{has_room};
 
+use crate::reception::Reception;
 use crate::rooms::Rooms;
 use crate::tokens::Seat;
 use fed_dest::{List, ServerIndex};
 use fed_event::Keys;
-use fed_hub_state::{Naming, SeatedOutbox, SendingJournal};
+use fed_hub_serving::{KeptInbox, ServingNaming};
+use fed_hub_state::{KeptRoom, Naming, SeatedOutbox, SendingJournal};
+use fed_replies::ListStore;
 use fed_wires::Board;
 use std::marker::Model;
 use std::sync::Mutex;
 
-/// What the threads of a server that sends share: its rooms, its journal and the outbox of each other server, each under a lock of its own,
-/// and a board on which any thread reads how much was delivered, and waits for nobody. A room's lock is taken before the journal's, and no
-/// other two are taken together.
+/// What the threads of a server share: its rooms, its journal, the outbox of each other server and its inbox, each under a lock of its own, and
+/// a board on which any thread reads how much was delivered, and waits for nobody. A room's lock is taken before the journal's, and no other
+/// two are taken together.
 ///
-/// Contracts see the listed servers, the place of the own one among them, its name, and the ids of the rooms.
+/// Contracts see the listed servers, the place of the own one among them, its name, the ids of the rooms, and for how many clients and readers of
+/// the board it was made.
 #[derive(Drop)]
-pub struct Hub<N: Naming, K: Keys + Drop> {
+pub struct Hub<N: Naming + ServingNaming, K: Keys + Drop> {
     pub(crate) list: List,
     pub(crate) own: ServerIndex,
     pub(crate) keys: K,
@@ -25,23 +30,40 @@ pub struct Hub<N: Naming, K: Keys + Drop> {
     pub(crate) rooms: Rooms,
     pub(crate) journal: Mutex<SendingJournal<N>>,
     pub(crate) outboxes: Vec<Mutex<SeatedOutbox<N>>>,
+    pub(crate) reception: Reception<N>,
     pub(crate) board: Board,
+    pub(crate) clients: u64,
+    pub(crate) readers: usize,
 }
 
-impl<N: Naming, K: Keys + Drop> Model for Hub<N, K> {
+impl<N: Naming + ServingNaming, K: Keys + Drop> Model for Hub<N, K> {
     ghost use Rattle.std.specs.Prelude.{◌≡◌, ◌<◌, length};
     ghost use Rattle.fed_wires.specs.Board.{word_count};
-    ghost use Rattle.fed_hub.specs.Hub.{HubShape};
+    ghost use Rattle.fed_hub.specs.Hub.{HubShape, ServesBy};
 
     ghost Value = { HubShape };
 
-    ghost view = { λ h. record { list = h.list; own = h.own; name = K.own_name h.keys; rooms = h.rooms } };
+    ghost view = { λ h. record { list = h.list; own = h.own; name = K.own_name h.keys; rooms = h.rooms.ids; clients = h.clients; readers = h.readers } };
 
     ghost invariant = { λ h. (length h.list ≡ length N.wires) × (h.own ≡ N.own) × (h.own < length h.list)
-        × (h.board.id ≡ N.board) × (word_count N.board ≡ length N.wires) × (length h.outboxes.items ≡ length N.wires) };
+        × (h.board.id ≡ N.board) × (word_count N.board ≡ length N.wires) × (length h.outboxes.items ≡ length N.wires)
+        × ServesBy N.checks (length N.rooms) N.known (K.checks h.keys) h.reception h.rooms };
 }
 
-impl<N: Naming, K: Keys + Drop> Hub<N, K> {
+impl<N: Naming + ServingNaming, K: Keys + Drop> Hub<N, K> {
+    /// The room of this id under its lock, for who reads it; `None` where the hub has none. Who holds the lock makes those wait that send in the
+    /// room, and the thread that stores what came for it.
+    pub fn room(&self, id: &str) -> Option<&Mutex<KeptRoom>>
+        ensures { is_some result ≡ has_room self.now.rooms id.now }
+    {
+        self.rooms.get(id)
+    }
+
+    /// The inbox under its lock, for who reads what it took and answered. Who holds the lock makes those wait that answer requests.
+    pub fn inbox(&self) -> &Mutex<KeptInbox<N, ListStore>> {
+        self.reception.inbox()
+    }
+
     /// How many events for a destination were delivered, by one look at the board. It waits for nobody and takes no memory.
     pub fn delivered(&self, seat: &mut Seat<N>, dest: ServerIndex) -> u64
         requires { dest < length N.wires }

@@ -1,23 +1,21 @@
 // What client threads ask of a hub.
-ghost use Rattle.std.specs.Prelude.{◌≡◌, ◌≢◌, ◌<◌, false, length, All, IfOk, OnOk};
-ghost use Rattle.std.specs.List.Sorted.{IsStrictlyIncreasing};
-ghost use Rattle.fed_dest.specs.Joined.{AreDestinations};
-ghost use Rattle.fed_event.specs.EventId.{event_id_of};
+ghost use Rattle.std.specs.Prelude.{◌≡◌, ◌≢◌, ◌<◌, false, length, All, IfOk};
 ghost use Rattle.fed_dest.specs.ServerSet.{is_among};
-ghost use Rattle.fed_journal.specs.declared.offered.Offered.TheVariants as offered;
-ghost use Rattle.fed_journal.specs.Offered.{load_of};
-ghost use Rattle.fed_hub_state.specs.Spreading.{AreAll, dests_of};
 ghost use Rattle.fed_room.specs.Room.{room_of};
 ghost use Rattle.fed_room_contract.specs.Prepared.{signer_of};
 ghost use Rattle.fed_hub.specs.Offering.{IsSent, IsSentIn, IsEduOffered};
+ghost use Rattle.fed_hub.specs.Ready.{IsReady};
 
+use crate::client_token::ClientToken;
 use crate::faults::{EduFault, SendFault};
 use crate::hub::Hub;
+use crate::ready::{Ready, ReadyEdu};
 use fed_dest::{ServerIndex, ServerSet, destinations};
 use fed_event::{EventId, Keys};
-use fed_hub_state::sections::{self, Outgoing};
-use fed_hub_state::{ClientToken, KeptRoom, Naming, Unplaced};
-use fed_journal::{JournalFault as CloseFault, Offered, edu_fault};
+use fed_hub_serving::ServingNaming;
+use fed_hub_state::{KeptRoom, Naming, sections};
+use fed_hub_told::{Told, ToldEdu, ToldEvent};
+use fed_journal::{JournalFault as CloseFault, edu_fault};
 use fed_json::{Json, NoMemory};
 use fed_room_contract::{Draft, Prepared, RoomEngine};
 use std::alloc::Global;
@@ -30,7 +28,7 @@ pub struct Sent {
     pub event_id: EventId,
 }
 
-impl<N: Naming, K: Keys + Drop> Hub<N, K> {
+impl<N: Naming + ServingNaming, K: Keys + Drop> Hub<N, K> {
     /// Makes an event of a draft, stores it in its room and sends it on its way to the other listed servers that are joined in the state
     /// before it, as far as their outboxes are open (Server-Server API, "PDUs"). An outbox whose parcel comes back is closed as lost. It
     /// waits while a wire is full.
@@ -47,7 +45,6 @@ impl<N: Naming, K: Keys + Drop> Hub<N, K> {
     /// - `Limit`, where the journal has no place for it and for closing each outbox that it reaches
     ///
     /// And `Memory`, behind the first two.
-    #[tactic(auto, using(crate::proofs::Sendings::parts_stay))]
     pub fn send<R: Wait>(
         &self,
         rt: &R,
@@ -55,9 +52,7 @@ impl<N: Naming, K: Keys + Drop> Hub<N, K> {
         client: &mut ClientToken<N>,
         draft: Draft,
     ) -> Result<Sent, SendFault>
-        requires part { 0 < client.old.parts }
-        ensures sent { IsSent self.now draft client.old result client.new }
-        ensures part { client.new.parts ≡ client.old.parts }
+        ensures { IsSent self.now draft client.old result client.new }
     {
         let Some(room) = self.rooms.get(&draft.room) else {
             return Err(SendFault::UnknownRoom);
@@ -75,45 +70,49 @@ impl<N: Naming, K: Keys + Drop> Hub<N, K> {
         client: &mut ClientToken<N>,
         draft: Draft,
     ) -> Result<Sent, SendFault>
-        requires part { 0 < client.old.parts }
         requires name { K.own_name keys.now ≡ self.now.name }
         ensures { IsSentIn (signer_of (K.own_name keys.now) (K.own_key keys.now) (K.own_signature keys.now) (K.checks keys.now)) draft room.old client.old result room.new client.new }
     {
+        let copy = draft.copy(alloc);
         let prepared = room.prepare(alloc, draft, keys)?;
-        let (event_id, outgoing) = self.outgoing(alloc, room, prepared)?;
-        let number = sections::offer(rt, room, &mut self.journal.lock(rt), client, outgoing)?;
+        let Ready {
+            outgoing,
+            draft,
+            event_id,
+            same_id,
+        } = self.ready(alloc, room, &mut client.told, prepared, copy)?;
+        let number = sections::offer(
+            rt,
+            room,
+            &mut self.journal.lock(rt),
+            &mut client.share,
+            outgoing,
+        )?;
+        client.told.note_event(ToldEvent {
+            draft,
+            number,
+            event_id: same_id,
+        });
         Ok(Sent { number, event_id })
     }
 
-    // The id of the event that a room has prepared, and the event with its destinations, and equal ones for the journal, for the room's inputs
-    // and for each of these.
-    fn outgoing(
+    // Makes ready what a room has prepared of a draft, with its destinations, and room for what the client will be told.
+    fn ready(
         &self,
         alloc: Global,
         room: &KeptRoom,
+        told: &mut Told,
         prepared: Prepared,
-    ) -> Result<(EventId, Outgoing), NoMemory>
-        ensures id { IfOk result (λ o. o.0 ≡ event_id_of prepared.event.event) }
-        ensures equal { IfOk result (λ o. (o.1.prepared ≡ prepared) × (o.1.offered ≡ offered.Event prepared.event) × (o.1.input ≡ prepared.event)) }
-        ensures dests { IfOk result (λ o. AreDestinations (room_of room.now.room).stored prepared.before self.now.list self.now.own o.1.dests) }
-        ensures within { IfOk result (λ o. All (λ d. d < length N.wires) o.1.dests) }
-        ensures loads { IfOk result (λ o. (dests_of o.1.loads.items ≡ o.1.dests) × AreAll (load_of o.1.offered) o.1.loads.items) }
+        draft: Result<Draft, NoMemory>,
+    ) -> Result<Ready, NoMemory>
+        ensures same { (told.new.events ≡ told.old.events) × (told.new.edus ≡ told.old.edus) }
+        ensures ready { IfOk result (λ r. IsReady (room_of room.now.room).stored self.now.list self.now.own (length N.wires) prepared draft told.new r) }
     {
-        let event_id = prepared.event().event().id().copy(alloc)?;
+        told.reserve_event()?;
         let graph = room.room().graph();
         let before = prepared.state_before();
         let dests = destinations(alloc, graph, before, self.own, &self.list)?;
-        let offered = Offered::Event(prepared.event().copy(alloc)?);
-        let loads = loads(alloc, &offered, &dests)?;
-        let input = prepared.event().copy(alloc)?;
-        let outgoing = Outgoing {
-            prepared,
-            offered,
-            input,
-            dests,
-            loads,
-        };
-        Ok((event_id, outgoing))
+        Ready::new(alloc, prepared, dests, draft?)
     }
 
     /// Offers an ephemeral data unit to some of the other listed servers, and tells its number among the EDUs of the journal, from 1
@@ -129,7 +128,6 @@ impl<N: Naming, K: Keys + Drop> Hub<N, K> {
     /// - `Limit`, where the journal has no place for it and for closing each outbox that it reaches
     ///
     /// And `Memory`, but for one that is none at all.
-    #[tactic(auto, using(crate::proofs::Sendings::edu_parts_stay))]
     pub fn offer_edu<R: Wait>(
         &self,
         rt: &R,
@@ -138,25 +136,32 @@ impl<N: Naming, K: Keys + Drop> Hub<N, K> {
         edu: Json,
         dests: ServerSet,
     ) -> Result<u64, EduFault>
-        requires part { 0 < client.old.parts }
         requires within { All (λ d. d < length N.wires) dests }
         requires others { is_among dests N.own ≡ false }
-        ensures offered { IsEduOffered edu client.old result client.new }
-        ensures part { client.new.parts ≡ client.old.parts }
+        ensures { IsEduOffered edu dests client.old result client.new }
     {
         if let Some(fault) = edu_fault(alloc, &edu)? {
             return Err(EduFault::from(fault));
         }
-        let offered = Offered::Edu(edu.copy()?);
-        let loads = loads(alloc, &offered, &dests)?;
+        client.told.reserve_edu()?;
+        let ReadyEdu {
+            loads,
+            same_edu,
+            same_dests,
+        } = ReadyEdu::new(alloc, &edu, &dests)?;
         let number = sections::offer_edu(
             rt,
             &mut self.journal.lock(rt),
-            client,
+            &mut client.share,
             edu,
             dests,
             loads,
         )?;
+        client.told.note_edu(ToldEdu {
+            edu: same_edu,
+            dests: same_dests,
+            number,
+        });
         Ok(number)
     }
 
@@ -173,26 +178,15 @@ impl<N: Naming, K: Keys + Drop> Hub<N, K> {
         sections::close(rt, &mut self.journal.lock(rt), dest)
     }
 
-    /// Closes the outboxes of all other servers that are open. What is sent or offered from then on is refused.
+    /// Closes the outboxes of all other servers that are open, and ends the wires of all rooms. What is sent or offered from then on is refused,
+    /// and what is taken from other servers goes to no room.
     ///
     /// # Errors
     ///
     /// `Limit`, where the journal has no place for the closings, and `Memory`; all is then as it was.
     pub fn shut_down<R: Wait>(&self, rt: &R) -> Result<(), CloseFault> {
-        sections::shut_down(rt, &mut self.journal.lock(rt), self.own)
+        sections::shut_down(rt, &mut self.journal.lock(rt), self.own)?;
+        self.reception.end_rooms(rt);
+        Ok(())
     }
-}
-
-// A load with an equal one of what is offered, for each of some servers.
-fn loads(alloc: Global, offered: &Offered, dests: &ServerSet) -> Result<Vec<Unplaced>, NoMemory>
-    ensures dests { IfOk result (λ loads. dests_of loads.items ≡ dests.now) }
-    ensures same { IfOk result (λ loads. AreAll (load_of offered.now) loads.items) }
-    ensures rising { OnOk result (IsStrictlyIncreasing dests.now) }
-{
-    let mut loads = Vec::with_capacity(alloc, dests.len())?;
-    for dest in dests.as_slice() {
-        let load = offered.load(alloc)?;
-        loads.push(Unplaced { dest: *dest, load })?;
-    }
-    Ok(loads)
 }

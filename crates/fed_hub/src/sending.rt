@@ -13,22 +13,13 @@ use crate::tokens::SenderToken;
 use fed_dest::ServerIndex;
 use fed_event::Keys;
 use fed_exchange::{request_bytes, status_in};
+use fed_hub_rooms::Ran;
+use fed_hub_serving::ServingNaming;
 use fed_hub_state::{Naming, SeatedOutbox, sections};
 use fed_json::NoMemory;
 use fed_outbox::MAX_PDUS;
 use std::alloc::Global;
 use std::sync::Wait;
-
-/// How far a thread that sends has come.
-#[derive(Clone, Copy, Debug, PartialEq, Eq)]
-pub enum Ran {
-    /// The outbox was closed, and all that it accepted is settled.
-    Drained,
-    /// All turns were made.
-    TurnsSpent,
-    /// Memory ran out. A parcel in hand stays in the token, and the call may be made again.
-    Memory,
-}
 
 // What is to be done for a destination, by its outbox.
 #[derive(Drop)]
@@ -56,11 +47,17 @@ enum Next {
     Act,
 }
 
-impl<N: Naming, K: Keys + Drop> Hub<N, K> {
+impl<N: Naming + ServingNaming, K: Keys + Drop> Hub<N, K> {
     /// Delivers to the token's destination, in at most so many turns: moves what comes over its wire into its outbox, makes transactions of it,
     /// has each brought by the carrier until it is answered with 200, and settles it (Server-Server API, "Transactions"). A turn is one
     /// collect, one exchange or one pause. A carrier that fails, and a reply that can't be read, count as a failure, after which the
     /// transaction is due again later. No lock is held while the carrier or the gate is at work.
+    ///
+    /// What it tells:
+    ///
+    /// - `Drained` where the outbox was closed, and all that it accepted is settled
+    /// - `TurnsSpent` where all turns were made
+    /// - `Memory` where memory ran out. A parcel in hand stays in the token, and the call may be made again
     pub fn run_sender<R: Wait, C: Carrier, G: Gate>(
         &self,
         rt: &R,

@@ -5,21 +5,26 @@ ghost use Rattle.fed_wires.specs.ReceiveEnd.{new_receiver};
 ghost use Rattle.fed_hub.specs.Held.{held_new};
 ghost use Rattle.fed_hub.specs.Collecting.{with_hand, TakesOut};
 
+use crate::client_token::ClientToken;
 use crate::collected::Collected;
 use fed_dest::ServerIndex;
-use fed_hub_state::{ClientToken, InPlace, Naming};
+use fed_hub_rooms::RoomToken;
+use fed_hub_serving::{ServeToken, ServingNaming};
+use fed_hub_state::{InPlace, Naming};
 use fed_journal::Parcel;
 use fed_wires::{ReceiveEnd, Received};
 use std::marker::{Model, PhantomData};
 use std::sync::Wait;
 
-/// What the threads that share a hub hold: a token for each client, a seat for each reader of the board, and a token for each destination, in
-/// the order of their places.
+/// What the threads that share a hub hold: a token for each client, a seat for each reader of the board, a token for each destination and for
+/// each room, in the order of their places, and for serving a token for each listed server.
 #[derive(Drop)]
-pub struct Tokens<N: Naming> {
+pub struct Tokens<N: Naming + ServingNaming> {
     pub clients: Vec<ClientToken<N>>,
     pub readers: Vec<Seat<N>>,
     pub senders: Vec<SenderToken<N>>,
+    pub rooms: Vec<RoomToken<N>>,
+    pub servers: Vec<ServeToken<N>>,
 }
 
 /// A seat at the hub's board, through which a thread reads how much was delivered.

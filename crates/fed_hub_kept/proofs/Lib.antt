@@ -7,3 +7,5 @@ pub mod Destinations
 mod Each
 mod ById
 mod InRooms
+mod InPlaces
+mod SameIds

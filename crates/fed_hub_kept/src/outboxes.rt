@@ -1,7 +1,7 @@
 // Whether what outboxes accepted is of the journal.
-ghost use Rattle.std.specs.Prelude.{◌≡◌, ◌↔◌, All, IsTrue};
+ghost use Rattle.std.specs.Prelude.{◌≡◌, ◌↔◌, IsTrue};
 ghost use Rattle.fed_journal.specs.Journal.{closes};
-ghost use Rattle.fed_hub_kept.specs.OfJournal.{IsOfJournal};
+ghost use Rattle.fed_hub_kept.specs.OfJournal.{AreOfJournal, IsOfJournal};
 
 use crate::left::Left;
 use fed_dest::ServerIndex;
@@ -31,12 +31,14 @@ pub fn is_of_journal(outbox: &Outbox, entries: &[Entry]) -> bool
     left.is_empty()
 }
 
-/// Whether what each of these outboxes accepted is a front of what the entries of a journal place for its destination. It takes no memory.
+/// Whether the outbox at each place is for the server of that place, and what it accepted is a front of what the entries of a journal place for that
+/// server. It takes no memory.
 pub fn are_of_journal<N: Naming>(outboxes: &[SeatedOutbox<N>], entries: &[Entry]) -> bool
-    ensures { IsTrue result ↔ All (IsOfJournal entries.now) outboxes.now }
+    ensures { IsTrue result ↔ AreOfJournal entries.now outboxes.now }
 {
-    for seated in outboxes {
-        if !is_of_journal(seated.outbox(), entries) {
+    for (place, seated) in outboxes.iter().enumerate() {
+        let outbox = seated.outbox();
+        if outbox.dest().place() != place || !is_of_journal(outbox, entries) {
             return false;
         }
     }

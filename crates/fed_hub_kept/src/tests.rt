@@ -1,10 +1,13 @@
 // A small room, journal and outboxes, some of which do not fit together.
-ghost use Rattle.std.specs.Prelude.{◌≡◌, length};
+ghost use Rattle.std.specs.Prelude.{◌≡◌, Some, length, slice_get};
+ghost use Rattle.fed_wires.specs.ReceiveEnd.{new_receiver};
 ghost use Rattle.fed_wires.specs.Seat.{AreOwners};
 
 use super::*;
 use fed_dest::{List, ServerIndex, ServerName, ServerSet};
 use fed_event::{Checked, Pdu, StandIn, Trusting, check_in};
+use fed_hub_rooms::RoomToken;
+use fed_hub_serving::{ServeToken, ServingNaming};
 use fed_hub_state::sections::collect;
 use fed_hub_state::{KeptRoom, Naming, SeatedOutbox};
 use fed_journal::{Cause, Entry, Load, MAX_ENTRIES, Parcel, Place};
@@ -12,7 +15,7 @@ use fed_json::{Json, read};
 use fed_outbox::Outbox;
 use fed_room::{Room, started};
 use fed_room_contract::{Draft, Input, RoomEngine};
-use fed_wires::{Board, Seat};
+use fed_wires::{AnyMessage, Board, ReceiveEnd, Seat, wire};
 use std::alloc::Global;
 use std::marker::Brand;
 use std::test::*;
@@ -50,7 +53,7 @@ fn inputs(alloc: Global) -> Option<Vec<Input>> {
 }
 
 // Whether the events of these texts are those that came to it.
-fn are_given(alloc: Global, texts: &[&str]) -> Option<bool> {
+fn have_come(alloc: Global, texts: &[&str]) -> Option<bool> {
     let mut given = Vec::with_capacity(alloc, texts.len()).ok()?;
     for text in texts {
         given.push(event(alloc, text)?).ok()?;
@@ -61,10 +64,10 @@ fn are_given(alloc: Global, texts: &[&str]) -> Option<bool> {
 #[test]
 fn what_came_is_what_was_given(rt: HostRuntime) -> Result<(), Fail> {
     let alloc = rt.alloc();
-    assert_eq!(rt; are_given(alloc, &[FIRST, SECOND]), Some(true));
-    assert_eq!(rt; are_given(alloc, &[FIRST]), Some(false));
-    assert_eq!(rt; are_given(alloc, &[SECOND, FIRST]), Some(false));
-    assert_eq!(rt; are_given(alloc, &[FIRST, THIRD, SECOND]), Some(false));
+    assert_eq!(rt; have_come(alloc, &[FIRST, SECOND]), Some(true));
+    assert_eq!(rt; have_come(alloc, &[FIRST]), Some(false));
+    assert_eq!(rt; have_come(alloc, &[SECOND, FIRST]), Some(false));
+    assert_eq!(rt; have_come(alloc, &[FIRST, THIRD, SECOND]), Some(false));
     Ok(())
 }
 
@@ -285,11 +288,7 @@ fn journal(alloc: Global, places: &[ServerIndex]) -> Option<Vec<Entry>> {
 
 // Whether all events of that journal went where these rooms send them.
 fn are_sent(alloc: Global, rooms: &[&str], places: &[ServerIndex]) -> Option<bool> {
-    let mut kept = Vec::with_capacity(alloc, rooms.len()).ok()?;
-    for room in rooms {
-        let room = KeptRoom::start(alloc, "a", beginning(alloc, *room)?).ok()?;
-        kept.push(room).ok()?;
-    }
+    let kept = kept_rooms(alloc, rooms)?;
     let entries = journal(alloc, places)?;
     are_sent_as_stored(alloc, &kept, ServerIndex::new(0), &list(alloc)?, &entries).ok()
 }
@@ -306,5 +305,68 @@ fn all_events_go_where_their_rooms_send_them(rt: HostRuntime) -> Result<(), Fail
     // Its room is not there.
     assert_eq!(rt; are_sent(alloc, &[ROOM], &[one]), Some(false));
     assert_eq!(rt; are_sent(alloc, &[], &[one]), Some(false));
+    Ok(())
+}
+
+// These rooms.
+fn kept_rooms(alloc: Global, rooms: &[&str]) -> Option<Vec<KeptRoom>> {
+    let mut kept = Vec::with_capacity(alloc, rooms.len()).ok()?;
+    for room in rooms {
+        let room = KeptRoom::start(alloc, "a", beginning(alloc, *room)?).ok()?;
+        kept.push(room).ok()?;
+    }
+    Some(kept)
+}
+
+// Whether the two rooms are in the places of these ids.
+fn are_placed_by(alloc: Global, ids: &[&str]) -> Option<bool> {
+    let mut texts = Vec::with_capacity(alloc, ids.len()).ok()?;
+    for id in ids {
+        texts.push(String::from_str(alloc, *id).ok()?).ok()?;
+    }
+    Some(are_in_places(&kept_rooms(alloc, &[ROOM, PAIR])?, &texts))
+}
+
+#[test]
+fn rooms_are_in_the_places_of_their_ids(rt: HostRuntime) -> Result<(), Fail> {
+    let alloc = rt.alloc();
+    assert_eq!(rt; are_placed_by(alloc, &[ROOM, PAIR]), Some(true));
+    assert_eq!(rt; are_placed_by(alloc, &[PAIR, ROOM]), Some(false));
+    assert_eq!(rt; are_placed_by(alloc, &[ROOM]), Some(false));
+    assert_eq!(rt; are_placed_by(alloc, &[ROOM, PAIR, PAIR]), Some(false));
+    Ok(())
+}
+
+// Whether the thread of the first room, which gave it nothing, gave just what came: beside that room, and beside none.
+fn is_nothing_given<N: ServingNaming>(
+    alloc: Global,
+    end: ReceiveEnd<Checked, AnyMessage>,
+) -> Option<[bool; 2]>
+    requires wire { slice_get N.rooms 0 ≡ Some end.wire }
+    requires new { end ≡ new_receiver end.wire }
+{
+    let token = RoomToken::<N>::new(alloc, 0, end);
+    let tokens = vec![in alloc; token].ok()?;
+    let rooms = kept_rooms(alloc, &[ROOM])?;
+    Some([are_given(&rooms, &tokens), are_given(&[], &tokens)])
+}
+
+#[test]
+fn a_room_was_given_what_its_thread_gave(rt: HostRuntime) -> Result<(), Fail> {
+    let alloc = rt.alloc();
+    let (sender, end) = wire(alloc)?;
+    drop(sender);
+    let given = is_nothing_given::<Brand>(alloc, end);
+    assert_eq!(rt; given, Some([true, false]));
+    Ok(())
+}
+
+#[test]
+fn a_history_without_points_is_of_threads_that_answered_nothing(
+    rt: HostRuntime,
+) -> Result<(), Fail> {
+    let alloc = rt.alloc();
+    let tokens = [ServeToken::<Brand>::new(alloc), ServeToken::new(alloc)];
+    assert!(rt; are_answered(alloc, &tokens, &[])?);
     Ok(())
 }

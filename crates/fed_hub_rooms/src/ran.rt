@@ -1,12 +1,12 @@
-// How far the thread of a room has come.
+// How far a thread has come.
 
-/// How far a thread that stores the events of a room has come.
+/// How far a thread that moves on what comes over a wire has come.
 #[derive(Clone, Copy, Debug, PartialEq, Eq)]
 pub enum Ran {
-    /// The other end of the wire is gone, and the room was given all that came.
+    /// Nothing more comes, and all that came was moved on.
     Drained,
     /// All turns were made.
     TurnsSpent,
-    /// Memory ran out. An event that the room was not given is in hand, and the call may be made again.
+    /// Memory ran out. What came and was not moved on is in hand, and the call may be made again.
     Memory,
 }

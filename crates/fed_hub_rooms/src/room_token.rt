@@ -1,5 +1,5 @@
 // What the thread of a room holds.
-ghost use Rattle.std.specs.Prelude.{◌≡◌, [], true, None, Some, IsSome, MatchBool, slice_get};
+ghost use Rattle.std.specs.Prelude.{◌≡◌, ◌<◌, [], true, None, Some, IsSome, MatchBool, length, slice_get};
 ghost use Rattle.fed_wires.specs.ReceiveEnd.{new_receiver};
 ghost use Rattle.fed_hub_rooms.specs.RoomHeld.{held_new, IsWhole};
 ghost use Rattle.fed_hub_rooms.specs.Turns.{GoesOn};
@@ -53,9 +53,10 @@ impl<N: ServingNaming> RoomToken<N> {
         }
     }
 
-    /// The place of the room.
+    /// The place of the room, which has a wire.
     pub fn room(&self) -> usize
-        ensures { result ≡ self.now.room }
+        ensures room { result ≡ self.now.room }
+        ensures within { result < length N.rooms }
     {
         self.room
     }

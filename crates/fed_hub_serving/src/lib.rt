@@ -15,11 +15,13 @@
 //! - `serving`: `serve_one`, which reads a request, answers it and writes the reply, and `ServingDesk`, what the threads that do share
 //! - `access`: `InboxAccess`, the way to the inbox, as a `LockedInbox` is
 //! - `serve_token`: `ServeToken`, the requests that such a thread answered, each an `AnsweredRequest`; `served`: `Served`, what became of one
+//! - `comparing`: whether requests and replies are equal
 #![tactic(auto)]
 
 mod access;
 mod answering;
 mod bound;
+mod comparing;
 mod end_place;
 mod inbox_reply;
 mod judged_request;

@@ -2,9 +2,12 @@
 ghost use Rattle.std.specs.Prelude.{◌≡◌, ◌<◌, [], ◌++◌, ◌∷◌, IfOk, length, vec_capacity};
 ghost use Rattle.fed_hub_serving.specs.Answered.{answered_by, with_answered};
 
+use crate::comparing::{are_equal_replies, are_equal_requests};
 use crate::inbox_reply::InboxReply;
+use crate::kept_point::KeptPoint;
 use crate::naming::ServingNaming;
 use fed_http::{Reply, Request};
+use fed_hub_told::Note;
 use fed_json::NoMemory;
 use std::alloc::Global;
 use std::marker::{Model, PhantomData};
@@ -57,6 +60,25 @@ impl AnsweredRequest {
         ensures { result ≡ self.now.number }
     {
         self.number
+    }
+}
+
+impl Note<KeptPoint> for AnsweredRequest {
+    ghost use Rattle.fed_hub_serving.specs.Answered.{IsPointOf};
+
+    ghost number = { λ answered. answered.number };
+
+    ghost IsOf = { IsPointOf };
+
+    fn number(&self) -> u64 {
+        self.number
+    }
+
+    fn is_of(&self, point: &KeptPoint) -> Result<bool, NoMemory> {
+        Ok(
+            are_equal_requests(point.request(), &self.request)
+                && are_equal_replies(point.reply(), &self.reply),
+        )
     }
 }
 

@@ -6,6 +6,7 @@ use super::*;
 use fed_dest::{List, ServerName};
 use fed_event::Keys;
 use fed_http::{signed_request, write_request};
+use fed_hub_told::Note;
 use fed_inbox::{Inbox, Receiver};
 use fed_json::NoMemory;
 use fed_keys::StandIn;
@@ -158,12 +159,10 @@ fn is_point(points: &[KeptPoint], answered: &AnsweredRequest) -> bool {
     let Some(place) = answered.number().checked_sub(1) else {
         return false;
     };
-    points.get(place as usize).is_some_and(|point| {
-        point.request().target() == answered.request().target()
-            && point.request().body() == answered.request().body()
-            && point.reply().status() == answered.reply().status()
-            && point.reply().body() == answered.reply().body()
-    })
+    match points.get(place as usize) {
+        Some(point) => matches!(answered.is_of(point), Ok(true)),
+        None => false,
+    }
 }
 
 // The transaction comes ten times, and its reply can be written whole at the last; then come bytes that are no request, or too few.

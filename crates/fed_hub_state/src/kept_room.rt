@@ -42,6 +42,7 @@ impl KeptRoom {
     ghost use Rattle.fed_room_contract.specs.Graph.{is_ready};
     ghost use Rattle.fed_room_contract.specs.Prepared.{signer_of, is_own_user, prepared_of};
     ghost use Rattle.fed_room_contract.specs.Room.{committed, empty_room};
+    ghost use Rattle.fed_room_contract.specs.Runs.{room_after, AllMayBeGiven};
     ghost use Rattle.fed_room.specs.declared.start_fault.StartFault.TheVariants as start;
     ghost use Rattle.fed_room.specs.Room.{room_of, room_rules, IsPrepared};
     ghost use Rattle.fed_room.specs.Start.{after_all, start_fault_of};
@@ -79,6 +80,22 @@ impl KeptRoom {
         ensures { result.now ≡ self.now.room }
     {
         &self.room
+    }
+
+    /// The events that the room began with.
+    pub fn start_events(&self) -> &[Checked]
+        ensures { result.now ≡ self.now.start }
+    {
+        &self.start
+    }
+
+    /// All that the room was given since, in order: it is the room after these inputs.
+    pub fn inputs(&self) -> &[Input]
+        ensures inputs { result.now ≡ self.now.inputs }
+        ensures after { room_of self.now.room ≡ room_after room_rules (after_all room_rules empty_room self.now.start) self.now.inputs }
+        ensures may { AllMayBeGiven room_rules (after_all room_rules empty_room self.now.start) self.now.inputs }
+    {
+        &self.inputs
     }
 
     /// The event that the room makes of a draft, as `RoomEngine::prepare`, and room for keeping it as an input.

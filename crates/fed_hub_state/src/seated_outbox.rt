@@ -1,5 +1,5 @@
 // An outbox, and the seat that owns its word of the board.
-ghost use Rattle.std.specs.Prelude.{◌≡◌, ◌<◌};
+ghost use Rattle.std.specs.Prelude.{◌≡◌, ◌<◌, length};
 ghost use Rattle.fed_outbox.specs.Outbox.{new_outbox};
 ghost use Rattle.fed_wires.specs.Board.{word_count};
 ghost use Rattle.fed_wires.specs.Seat.{one_word};
@@ -7,7 +7,7 @@ ghost use Rattle.fed_wires.specs.Seat.{one_word};
 use crate::naming::Naming;
 use fed_dest::ServerIndex;
 use fed_outbox::Outbox;
-use fed_wires::Seat;
+use fed_wires::{Board, Seat};
 use std::alloc::Global;
 use std::marker::{Model, PhantomData};
 
@@ -54,5 +54,15 @@ impl<N: Naming> SeatedOutbox<N> {
         ensures { result.now ≡ self.now }
     {
         &self.outbox
+    }
+
+    /// What its word of the board is, by one look: the count of the events that are settled. It waits for nobody and takes no memory.
+    pub fn shown(&mut self, board: &Board) -> u64
+        requires board { board.now.id ≡ N.board }
+        requires word { self.old.dest < word_count N.board }
+        ensures count { result ≡ length self.old.settled }
+        ensures same { self.new ≡ self.old }
+    {
+        board.load(&mut self.seat, self.outbox.dest().place())
     }
 }

@@ -133,6 +133,13 @@ impl<N: Naming> SendingJournal<N> {
         self.journal.entries()
     }
 
+    /// Whether it is shut down.
+    pub fn is_shut(&self) -> bool
+        ensures { result ≡ self.now.is_shut }
+    {
+        self.is_shut
+    }
+
     /// Compares the books with what all clients together were told: the journal has as many events, and as many EDUs.
     pub fn all_told(&mut self, all: &mut ClientToken<N>)
         requires { all.old.parts ≡ N.parts }

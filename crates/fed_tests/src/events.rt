@@ -1,12 +1,18 @@
 // Ids and faults as texts.
 use fed_event::{CheckFault, PduFault, event_id};
-use fed_json::{JsonFault, read};
+use fed_json::{Json, JsonFault, read};
 use fed_room_contract::Refusal;
+use std::alloc::Global;
 use std::test::Fail;
+
+// The value of a JSON text.
+fn json(alloc: Global, text: &[u8]) -> Result<Json, Fail> {
+    Ok(read(alloc, text)?)
+}
 
 #[test]
 fn ids(rt: HostRuntime) -> Result<(), Fail> {
-    let id = event_id(rt.alloc(), &read(rt.alloc(), b"{}")?)?;
+    let id = event_id(rt.alloc(), &json(rt.alloc(), b"{}")?)?;
     assert_eq!(rt;
         format!(in rt.alloc(); "{id} {id:?}")?.as_str(),
         "$RBNvo1WzZ4oRRq0W9-hknpT7T8If536DEMBg9hyq_4o \"$RBNvo1WzZ4oRRq0W9-hknpT7T8If536DEMBg9hyq_4o\""

@@ -26,14 +26,19 @@ fn as_read(alloc: Global, request: &Request) -> Result<Option<Request>, Fail> {
     Ok(None)
 }
 
-// A request of a.example with one EDU.
-fn request_with_an_edu(alloc: Global) -> Result<Request, Fail> {
-    let body = Vec::from_slice(
-        alloc,
-        b"{\"edus\":[{\"content\":{},\"edu_type\":\"m.x\"}],\"origin\":\"a.example\",\"origin_server_ts\":5,\"pdus\":[]}",
-    )?;
+// A request of a.example to b.example with this body.
+fn put(alloc: Global, body: &[u8]) -> Result<Request, Fail> {
+    let body = Vec::from_slice(alloc, body)?;
     let from = keys(alloc, "a.example")?;
     Ok(signed_request(alloc, "PUT", TARGET, "b.example", body, &from)?)
+}
+
+// A request of a.example with one EDU.
+fn request_with_an_edu(alloc: Global) -> Result<Request, Fail> {
+    put(
+        alloc,
+        b"{\"edus\":[{\"content\":{},\"edu_type\":\"m.x\"}],\"origin\":\"a.example\",\"origin_server_ts\":5,\"pdus\":[]}",
+    )
 }
 
 #[test]
@@ -85,14 +90,7 @@ fn a_request_is_judged_apart_from_the_inbox(rt: HostRuntime) -> Result<(), Fail>
 fn a_body_over_the_limit(rt: HostRuntime) -> Result<(), Fail> {
     let alloc = rt.alloc();
     let long = vec![in alloc; b' '; 16_777_217]?;
-    let sent = signed_request(
-        alloc,
-        "PUT",
-        TARGET,
-        "b.example",
-        long,
-        &keys(alloc, "a.example")?,
-    )?;
+    let sent = put(alloc, &long)?;
     let mut inbox = inbox(alloc)?;
     let reply = inbox.answer(alloc, &sent, &keys(alloc, "b.example")?);
     assert_eq!(rt; reply.status(), 413);
@@ -102,9 +100,7 @@ fn a_body_over_the_limit(rt: HostRuntime) -> Result<(), Fail> {
 #[test]
 fn copies_of_requests_and_replies(rt: HostRuntime) -> Result<(), Fail> {
     let alloc = rt.alloc();
-    let body = Vec::from_slice(alloc, b"{\"pdus\":[]}")?;
-    let keys = keys(alloc, "a.example")?;
-    let sent = signed_request(alloc, "PUT", TARGET, "b.example", body, &keys)?;
+    let sent = put(alloc, b"{\"pdus\":[]}")?;
     let copy = sent.copy(alloc)?;
     assert_eq!(rt; copy.method(), "PUT");
     assert_eq!(rt; copy.target(), TARGET);
@@ -128,23 +124,26 @@ fn replies_to_faults_go_out_in_parts(rt: HostRuntime) -> Result<(), Fail> {
     for (fault, bytes) in [
         (
             HttpFault::BadHead,
-            "HTTP/1.1 400 Bad Request\r\nContent-Type: application/json\r\nContent-Length: 45\r\nConnection: close\r\n\r\n\
-             {\"errcode\":\"M_UNKNOWN\",\"error\":\"bad request\"}",
+            b"HTTP/1.1 400 Bad Request\r\nContent-Type: application/json\r\nContent-Length: 45\r\nConnection: close\r\n\r\n\
+              {\"errcode\":\"M_UNKNOWN\",\"error\":\"bad request\"}"
+                .as_slice(),
         ),
         (
             HttpFault::TooLarge,
-            "HTTP/1.1 413 Payload Too Large\r\nContent-Type: application/json\r\nContent-Length: 50\r\nConnection: close\r\n\r\n\
-             {\"errcode\":\"M_TOO_LARGE\",\"error\":\"body too large\"}",
+            b"HTTP/1.1 413 Payload Too Large\r\nContent-Type: application/json\r\nContent-Length: 50\r\nConnection: close\r\n\r\n\
+              {\"errcode\":\"M_TOO_LARGE\",\"error\":\"body too large\"}"
+                .as_slice(),
         ),
         (
             HttpFault::Memory,
-            "HTTP/1.1 500 Internal Server Error\r\nContent-Type: application/json\r\nContent-Length: 47\r\nConnection: close\r\n\r\n\
-             {\"errcode\":\"M_UNKNOWN\",\"error\":\"out of memory\"}",
+            b"HTTP/1.1 500 Internal Server Error\r\nContent-Type: application/json\r\nContent-Length: 47\r\nConnection: close\r\n\r\n\
+              {\"errcode\":\"M_UNKNOWN\",\"error\":\"out of memory\"}"
+                .as_slice(),
         ),
     ] {
         let mut written = Vec::new(alloc);
         send_reply(&mut written, &Reply::from(fault))?;
-        assert_eq!(rt; written.as_slice(), bytes.as_bytes());
+        assert_eq!(rt; written.as_slice(), bytes);
     }
     assert_eq!(rt; phrase(404), "Not Found");
     assert_eq!(rt; phrase(799), "");

@@ -7,7 +7,7 @@ use std::io;
 use std::io::{ErrorKind, Read, Write};
 use std::test::Fail;
 
-const INPUT: &str = "\
+const INPUT: &[u8] = b"\
 a.example 7-1 {\"origin\":\"a.example\",\"origin_server_ts\":1,\"pdus\":[]}
 a.example 7-2 {\"origin\":\"a.example\",\"origin_server_ts\":1,\"pdus\":[{},{\"unsigned\":{\"age\":1}},5]}
 a.example 7-2 {\"origin\":\"a.example\",\"origin_server_ts\":9,\"pdus\":[]}
@@ -19,7 +19,7 @@ a.example 7-4 {\"origin\":\"a.example\",\"pdus\":[]}
 a.example 7-4 {\"origin\":\"a.example\",\"origin_server_ts\":1,\"pdus\":[]}
 ";
 
-const OUTPUT: &str = "\
+const OUTPUT: &[u8] = b"\
 200 {\"pdus\":{}}
 200 {\"pdus\":{\"$RBNvo1WzZ4oRRq0W9-hknpT7T8If536DEMBg9hyq_4o\":{\"error\":\"missing field: auth_events\"}}}
 200 {\"pdus\":{\"$RBNvo1WzZ4oRRq0W9-hknpT7T8If536DEMBg9hyq_4o\":{\"error\":\"missing field: auth_events\"}}}
@@ -31,7 +31,7 @@ const OUTPUT: &str = "\
 200 {\"pdus\":{}}
 ";
 
-const NOT_LISTED: &str = "403 {\"errcode\":\"M_FORBIDDEN\",\"error\":\"server not listed\"}\n";
+const NOT_LISTED: &[u8] = b"403 {\"errcode\":\"M_FORBIDDEN\",\"error\":\"server not listed\"}\n";
 
 // The inbox of `b.example`, which takes from `a.example`.
 fn setup(alloc: Global) -> Result<InboxSetup, Fail> {
@@ -132,13 +132,13 @@ fn bytes_in_small_pieces(rt: HostRuntime) -> Result<(), Fail> {
     let alloc = rt.alloc();
     for piece in [1, 2, 7, 70_000] {
         for slow in [false, true] {
-            let mut reader = in_pieces(INPUT.as_bytes(), piece, u64::MAX);
+            let mut reader = in_pieces(INPUT, piece, u64::MAX);
             reader.slow = slow;
             let mut writer = Takes::new(alloc, piece, u64::MAX);
             writer.slow = slow;
             let ended = inbox_run(alloc, reader, &mut writer, setup(alloc)?);
             assert_eq!(rt; ended, Ok(()));
-            assert_eq!(rt; writer.bytes.as_slice(), OUTPUT.as_bytes());
+            assert_eq!(rt; writer.bytes.as_slice(), OUTPUT);
         }
     }
     Ok(())
@@ -150,8 +150,8 @@ fn a_run_of_a_thousand_lines(rt: HostRuntime) -> Result<(), Fail> {
     let mut input = Vec::new(alloc);
     let mut output = Vec::new(alloc);
     for _ in 0..1_000 {
-        input.extend_from_slice("x.example 1 {}\n".as_bytes())?;
-        output.extend_from_slice(NOT_LISTED.as_bytes())?;
+        input.extend_from_slice(b"x.example 1 {}\n")?;
+        output.extend_from_slice(NOT_LISTED)?;
     }
     let mut written = Vec::new(alloc);
     let ended = inbox_run(alloc, input.as_slice(), &mut written, setup(alloc)?);
@@ -167,15 +167,15 @@ fn a_read_that_fails(rt: HostRuntime) -> Result<(), Fail> {
     assert_eq!(rt; INPUT.len(), 524);
     for calls in 0..55 {
         let mut written = Vec::new(alloc);
-        let reader = in_pieces(INPUT.as_bytes(), 10, calls);
+        let reader = in_pieces(INPUT, 10, calls);
         let ended = inbox_run(alloc, reader, &mut written, setup(alloc)?);
         if calls < 54 {
             assert_eq!(rt; ended, Err(RunFault::Io));
-            assert!(rt; OUTPUT.as_bytes().starts_with(&written));
+            assert!(rt; OUTPUT.starts_with(&written));
             assert!(rt; written.is_empty() || written.last() == Some(&b'\n'));
         } else {
             assert_eq!(rt; ended, Ok(()));
-            assert_eq!(rt; written.as_slice(), OUTPUT.as_bytes());
+            assert_eq!(rt; written.as_slice(), OUTPUT);
         }
     }
     Ok(())
@@ -188,13 +188,13 @@ fn a_write_that_fails(rt: HostRuntime) -> Result<(), Fail> {
     let needed = 1 + 3 + 3 + 2 + 2 + 2 + 2 + 2 + 1 + 9;
     for calls in 0..needed + 1 {
         let mut writer = Takes::new(alloc, 40, calls);
-        let ended = inbox_run(alloc, INPUT.as_bytes(), &mut writer, setup(alloc)?);
+        let ended = inbox_run(alloc, INPUT, &mut writer, setup(alloc)?);
         if calls < needed {
             assert_eq!(rt; ended, Err(RunFault::Io));
-            assert!(rt; OUTPUT.as_bytes().starts_with(&writer.bytes));
+            assert!(rt; OUTPUT.starts_with(&writer.bytes));
         } else {
             assert_eq!(rt; ended, Ok(()));
-            assert_eq!(rt; writer.bytes.as_slice(), OUTPUT.as_bytes());
+            assert_eq!(rt; writer.bytes.as_slice(), OUTPUT);
         }
     }
     Ok(())
@@ -204,7 +204,7 @@ fn a_write_that_fails(rt: HostRuntime) -> Result<(), Fail> {
 fn a_writer_that_takes_nothing(rt: HostRuntime) -> Result<(), Fail> {
     let alloc = rt.alloc();
     let mut writer = Takes::new(alloc, 0, 1_000);
-    let ended = inbox_run(alloc, INPUT.as_bytes(), &mut writer, setup(alloc)?);
+    let ended = inbox_run(alloc, INPUT, &mut writer, setup(alloc)?);
     assert_eq!(rt; ended, Err(RunFault::Io));
     assert!(rt; writer.bytes.is_empty());
     Ok(())
@@ -257,7 +257,7 @@ fn a_script_is_read_so_often_at_most(rt: HostRuntime) -> Result<(), Fail> {
 // Gives one line at each call, once what is written before is flushed.
 #[derive(Drop)]
 struct Asks<'a> {
-    lines: &'a [&'a str],
+    lines: &'a [&'a [u8]],
     held: &'a Cell<u64>,
 }
 
@@ -269,7 +269,7 @@ impl Read for Asks<'_> {
         if self.held.get() > 0 || line.len() > buffer.len() {
             return Err(io::Error::from(ErrorKind::Other));
         }
-        buffer[..line.len()].copy_from_slice(line.as_bytes());
+        buffer[..line.len()].copy_from_slice(line);
         self.lines = rest;
         Ok(line.len())
     }
@@ -303,7 +303,11 @@ fn each_line_is_flushed_before_the_next_is_read(rt: HostRuntime) -> Result<(), F
         bytes: Vec::new(alloc),
         held: &held,
     };
-    let lines = ["x.example 1 {}\n", "a.example 1 {\n", "x.example 2 {}"];
+    let lines = [
+        b"x.example 1 {}\n".as_slice(),
+        b"a.example 1 {\n",
+        b"x.example 2 {}",
+    ];
     let reader = Asks {
         lines: &lines,
         held: &held,
@@ -313,10 +317,10 @@ fn each_line_is_flushed_before_the_next_is_read(rt: HostRuntime) -> Result<(), F
     assert_eq!(rt; held.get(), 0);
     assert_eq!(rt;
         writer.bytes.as_slice(),
-        "403 {\"errcode\":\"M_FORBIDDEN\",\"error\":\"server not listed\"}\n\
+        b"403 {\"errcode\":\"M_FORBIDDEN\",\"error\":\"server not listed\"}\n\
          400 {\"errcode\":\"M_NOT_JSON\",\"error\":\"not json\"}\n\
          403 {\"errcode\":\"M_FORBIDDEN\",\"error\":\"server not listed\"}\n"
-            .as_bytes()
+            .as_slice()
     );
     Ok(())
 }

@@ -1,8 +1,8 @@
 // Bodies of the greatest size, replies that are read, and names and faults as texts.
 use fed_txn::{
-    BodyField, MAX_BODY, ReplyFault, TxnFault, read, read_body, read_reply, write_reply,
+    BodyField, MAX_BODY, ReplyFault, TxnFault, Verdicts, read, read_body, read_reply, write_reply,
 };
-use std::alloc::AllocError;
+use std::alloc::{AllocError, Global};
 use std::test::Fail;
 
 // The fault of a body.
@@ -45,18 +45,23 @@ fn texts(rt: HostRuntime) -> Result<(), Fail> {
     Ok(())
 }
 
+// The reply that a body is read as.
+fn reply(alloc: Global, body: &[u8]) -> Result<Verdicts, Fail> {
+    Ok(read_reply(alloc, body)?)
+}
+
 // Whether a body is read as no reply.
-fn is_no_reply(rt: &HostRuntime, body: &str) -> bool {
-    read_reply(rt.alloc(), body.as_bytes()).err() == Some(ReplyFault::NotReply)
+fn is_no_reply(rt: &HostRuntime, body: &[u8]) -> bool {
+    read_reply(rt.alloc(), body).err() == Some(ReplyFault::NotReply)
 }
 
 #[test]
 fn replies_are_read(rt: HostRuntime) -> Result<(), Fail> {
     let alloc = rt.alloc();
-    let one = read_reply(alloc, b"{\"pdus\":{\"$x\":{}}}")?;
+    let one = reply(alloc, b"{\"pdus\":{\"$x\":{}}}")?;
     assert_eq!(rt; one.len(), 1);
     assert_eq!(rt; one.get("$x"), Some(None));
-    let two = read_reply(
+    let two = reply(
         alloc,
         b"{\"more\":[1],\"pdus\":{\"$x\":{\"code\":2},\"$y\":{\"error\":\"no\"}}}",
     )?;
@@ -73,12 +78,12 @@ fn replies_are_read(rt: HostRuntime) -> Result<(), Fail> {
 
 #[test]
 fn no_replies(rt: HostRuntime) -> Result<(), Fail> {
-    assert!(rt; is_no_reply(&rt, "{}"));
-    assert!(rt; is_no_reply(&rt, "not json"));
-    assert!(rt; is_no_reply(&rt, "{\"pdus\":[]}"));
-    assert!(rt; is_no_reply(&rt, "{\"pdus\":{\"$x\":null}}"));
-    assert!(rt; is_no_reply(&rt, "{\"pdus\":{\"$x\":{\"error\":1}}}"));
-    assert!(rt; is_no_reply(&rt, "{\"pdus\":{},\"time\":1.5}"));
-    assert!(rt; !is_no_reply(&rt, "{\"pdus\":{}}"));
+    assert!(rt; is_no_reply(&rt, b"{}"));
+    assert!(rt; is_no_reply(&rt, b"not json"));
+    assert!(rt; is_no_reply(&rt, b"{\"pdus\":[]}"));
+    assert!(rt; is_no_reply(&rt, b"{\"pdus\":{\"$x\":null}}"));
+    assert!(rt; is_no_reply(&rt, b"{\"pdus\":{\"$x\":{\"error\":1}}}"));
+    assert!(rt; is_no_reply(&rt, b"{\"pdus\":{},\"time\":1.5}"));
+    assert!(rt; !is_no_reply(&rt, b"{\"pdus\":{}}"));
     Ok(())
 }

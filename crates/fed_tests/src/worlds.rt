@@ -1,11 +1,11 @@
 // Worlds, by what others see of them, and setups that no world begins with.
 use fed_dest::{ServerIndex, ServerName, ServerSet};
 use fed_room_contract::RoomEngine;
-use fed_sim::{Outcome, RoomSetup, Setup, SimFault, calm, read_script, run};
+use fed_sim::{Outcome, RoomSetup, Setup, SimFault, World, calm, read_script, run};
 use std::alloc::Global;
 use std::test::Fail;
 
-const SCRIPT: &str = "\
+const SCRIPT: &[u8] = b"\
 servers a b
 room !r:a @u:a @v:b
 send a !r:a @u:a m.x - {}
@@ -48,11 +48,16 @@ fn words_of(alloc: Global, text: &str) -> Result<Vec<String>, Fail> {
     Ok(words)
 }
 
+// The world after a script.
+fn world_of(alloc: Global, script: &[u8]) -> Result<World, Fail> {
+    let (setup, steps) = read_script(alloc, script)?;
+    Ok(run(alloc, &setup, &steps)?)
+}
+
 #[test]
 fn a_round_of_calm_delivers_all(rt: HostRuntime) -> Result<(), Fail> {
     let alloc = rt.alloc();
-    let (setup, steps) = read_script(alloc, SCRIPT.as_bytes())?;
-    let mut world = run(alloc, &setup, &steps)?;
+    let mut world = world_of(alloc, SCRIPT)?;
     let (a, b) = (ServerIndex::new(0), ServerIndex::new(1));
     assert_eq!(rt; world.names().len(), 2);
     assert_eq!(rt; world.names()[1].as_str(), "b");

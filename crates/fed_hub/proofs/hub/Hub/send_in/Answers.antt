@@ -4,7 +4,7 @@ use Rattle.fed_room.specs.Room.{room_of}
 use Rattle.fed_hub_state.specs.Sections.{EventIsOffered}
 use Rattle.fed_hub.specs.Faults.{fault_of_entering}
 use Rattle.fed_hub.specs.Offering.{IsSentIn}
-use Rattle.fed_hub.proofs.Sendings.{err_is, made_of, is_sent, not_sent}
+use Rattle.fed_hub.proofs.Sendings.{err_is, made_of, is_sent, not_sent, nothing_so, told_so}
 use Rattle.fed_hub.proofs.hub.Hub.send_in.Goals as goal
 
 pub returns-in_err-number : goal.returns-in_err-number
@@ -13,12 +13,15 @@ returns-in_err-number g c =
     let ready = room_of c.prepare.new.self.room in
     let p = c.in_ok-prepared.prepared in
     let fault = c.in_err-number.field-0.0 in
-    let dests = c.in_ok-event_id.outgoing.dests in
-    let offered : EventIsOffered p dests ready c.deref_mut.result.now c.args.client.now (Err fault) (room_of c.offer.new.room.room) c.offer.new.journal c.offer.new.client =
-    subst (λ (q : PreparedEvent). EventIsOffered q dests ready c.deref_mut.result.now c.args.client.now (Err fault) (room_of c.offer.new.room.room) c.offer.new.journal c.offer.new.client) c.in_ok-event_id.ensures.equal.0 c.in_err-number.ensures in
-    let told = err_is c.from_residual-in_err-number.result (fault_of_entering fault) c.from_residual-in_err-number.ensures.0 c.from_residual-in_err-number.ensures.1 in
-    subst (λ r. IsSentIn signer c.args.draft c.args.room.now c.args.client.now r c.offer.new.room c.offer.new.client) (sym told)
-    (not_sent signer c.args.draft c.args.room.now c.offer.new.room ready c.args.client.now c.offer.new.client p dests c.deref_mut.result.now c.offer.new.journal fault (made_of p _ c.in_ok-prepared.ensures.told) c.in_ok-prepared.ensures.stays.0 offered)
+    let dests = c.in_ok-outgoing.field-0.outgoing.dests in
+    let old = c.deref_mut.result.now in
+    let share = c.client.inside.share in
+    let told = c.ready.new.told in
+    let offered = subst (λ (q : PreparedEvent). EventIsOffered q dests ready old share (Err fault) (room_of c.offer.new.room.room) c.offer.new.journal c.offer.new.client) c.in_ok-outgoing.ensures.ready.made.event c.in_err-number.ensures in
+    let is = err_is c.from_residual-in_err-number.result (fault_of_entering fault) c.from_residual-in_err-number.ensures.0 c.from_residual-in_err-number.ensures.1 in
+    let nothing = nothing_so c.args.client.now c.client.inside.told told c.client.view_is c.in_ok-outgoing.ensures.same.0 c.in_ok-outgoing.ensures.same.1 in
+    subst (λ r. IsSentIn signer c.args.draft c.args.room.now c.args.client.now r c.offer.new.room told) (sym is)
+    (not_sent signer c.args.draft c.args.room.now c.offer.new.room ready share c.offer.new.client c.args.client.now told p dests old c.offer.new.journal fault (made_of p _ c.in_ok-prepared.ensures.told) c.in_ok-prepared.ensures.stays.0 nothing offered)
 
 pub returns : goal.returns
 returns g c =
@@ -26,10 +29,20 @@ returns g c =
     let room = room_of c.args.room.now.room in
     let ready = room_of c.prepare.new.self.room in
     let p = c.in_ok-prepared.prepared in
-    let dests = c.in_ok-event_id.outgoing.dests in
+    let dests = c.in_ok-outgoing.field-0.outgoing.dests in
     let number = c.in_ok-number.number in
-    let offered : EventIsOffered p dests ready c.deref_mut.result.now c.args.client.now (Ok number) (room_of c.offer.new.room.room) c.offer.new.journal c.offer.new.client =
-    subst (λ (q : PreparedEvent). EventIsOffered q dests ready c.deref_mut.result.now c.args.client.now (Ok number) (room_of c.offer.new.room.room) c.offer.new.journal c.offer.new.client) c.in_ok-event_id.ensures.equal.0 c.in_ok-number.ensures in
+    let old = c.deref_mut.result.now in
+    let share = c.client.inside.share in
+    let told = c.ready.new.told in
+    let r = c.in_ok-outgoing.field-0 in
+    let of = c.in_ok-outgoing.ensures.ready in
+    let offered = subst (λ (q : PreparedEvent). EventIsOffered q dests ready old share (Ok number) (room_of c.offer.new.room.room) c.offer.new.journal c.offer.new.client) of.made.event c.in_ok-number.ensures in
     let made = made_of p _ c.in_ok-prepared.ensures.told in
-    let so = is_sent signer c.args.draft c.args.self.now.list c.args.self.now.own room ready (room_of c.offer.new.room.room) c.args.client.now c.offer.new.client p dests c.deref_mut.result.now c.offer.new.journal number made c.in_ok-prepared.ensures.ready c.in_ok-event_id.ensures.dests c.in_ok-prepared.ensures.stays.0 offered in
-    (p, made, c.in_ok-event_id.ensures.id, so.0, so.1)
+    let so = is_sent signer c.args.draft c.args.self.now.list c.args.self.now.own room ready (room_of c.offer.new.room.room) share c.offer.new.client p dests old c.offer.new.journal number made c.in_ok-prepared.ensures.ready of.destinations c.in_ok-prepared.ensures.stays.0 offered in (
+      p,
+      made,
+      of.made.id,
+      so.0,
+      told_so c.args.client.now c.client.inside.told told c.note_event.new.self c.args.draft r.draft c.copy-copy.result number r.event_id r.same_id c.client.view_is c.copy-copy.ensures of.same_draft of.made.other_id
+          c.in_ok-outgoing.ensures.same.0 c.in_ok-outgoing.ensures.same.1 c.note_event.ensures,
+    )

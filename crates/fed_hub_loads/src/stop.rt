@@ -1,0 +1,56 @@
+// Why there is nothing to count.
+use fed_hub::HubFault;
+use fed_json::NoMemory;
+use std::alloc::AllocFailed;
+use std::{fmt, io};
+
+/// Why there is nothing to count.
+#[derive(Drop)]
+pub enum Stop {
+    /// Memory ran out.
+    Memory,
+    /// A call was refused.
+    Refused,
+    /// The clock could not be read, or nothing could be printed.
+    System,
+    /// The line asks for nothing that there is.
+    WrongWords,
+}
+
+impl fmt::Display for Stop {
+    fn fmt<W: fmt::Write>(&self, f: &mut fmt::Formatter<W>) -> fmt::Result {
+        f.write_str(match self {
+            Stop::Memory => "out of memory",
+            Stop::Refused => "a call was refused",
+            Stop::System => "the clock could not be read, or nothing could be printed",
+            Stop::WrongWords => "wrong words",
+        })
+    }
+}
+
+impl From<NoMemory> for Stop {
+    fn from(_error: NoMemory) -> Stop {
+        Stop::Memory
+    }
+}
+
+impl From<HubFault> for Stop {
+    fn from(fault: HubFault) -> Stop {
+        match fault {
+            HubFault::Memory => Stop::Memory,
+            HubFault::BadSetup => Stop::Refused,
+        }
+    }
+}
+
+impl<T: Drop> From<AllocFailed<T>> for Stop {
+    fn from(_error: AllocFailed<T>) -> Stop {
+        Stop::Memory
+    }
+}
+
+impl From<io::Error> for Stop {
+    fn from(_error: io::Error) -> Stop {
+        Stop::System
+    }
+}
