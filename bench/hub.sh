@@ -1,7 +1,8 @@
 #!/bin/sh
 # Measures the built program crates/fed_hub_bench/out/fed_hub_bench (after `rt run < stdin` there): events that client threads send through one
-# hub, in turn to eight rooms, to three destinations whose carriers answer 200 from memory; and events that threads take from other servers, each
-# from one of its own, while another thread gives them to their room.
+# hub, in turn to eight rooms, to three destinations whose carriers answer 200 from memory; and events of eight rooms that threads take from other
+# servers, each from one of its own: by a server that is in none of the rooms, so that taking is all that it does, and by one that is in all of
+# them, while a thread for each room stores the events.
 #
 #     bench/hub.sh [RUNS] [EVENTS] [TRANSACTIONS]
 #
@@ -42,7 +43,8 @@ def measure(name, line, wanted, count):
 one, eight = (measure(f"{it} clients", f"hub {it} 8 {events}", f"sent {events}, delivered {events} {events} {events}", events)
               for it in (1, 8))
 print(f"eight clients send {eight / one:.1f} times as many events a second as one")
-one, eight = (measure(f"{it} serving threads", f"serve {it} {transactions // it}", f"served {transactions}", transactions * 50)
-              for it in (1, 8))
-print(f"eight threads take {eight / one:.1f} times as many events a second as one")
+for rooms, what in (0, "take"), (8, "take, while they are stored,"):
+    one, eight = (measure(f"{it} serving threads, {rooms} rooms", f"serve {it} {rooms} {transactions // it}",
+                          f"served {transactions}, stored {transactions * 50 if rooms else 0}", transactions * 50) for it in (1, 8))
+    print(f"eight threads {what} {eight / one:.1f} times as many events a second as one")
 PY

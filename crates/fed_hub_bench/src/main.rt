@@ -4,9 +4,9 @@
 //! - `hub CLIENTS ROOMS EVENTS` makes a hub of four servers with so many rooms of a user of each, and so many client threads, which send so many
 //!   events between them, each to one room after another, while a thread for each other server delivers them by a carrier that answers 200 from
 //!   memory: how many were sent and how many were delivered to each
-//! - `serve THREADS TRANSACTIONS` makes a hub with a room, and so many threads, at most eight, each of which answers so many transactions of a server
-//!   of its own, of 50 events each, while another thread gives the room what they bring: how many were answered. The transactions are made
-//!   before the time is taken
+//! - `serve THREADS ROOMS TRANSACTIONS` makes a hub with so many rooms, and so many threads, at most eight, each of which answers so many
+//!   transactions of a server of its own, of 50 events each, of eight rooms in turn, while a thread for each room of the hub stores what they bring
+//!   for it: how many transactions were answered, and how many events were stored. The transactions are made before the time is taken
 #![tactic(auto)]
 
 use fed_hub_loads::{Figures, Incoming, Load, Looks, Stop, send_all, serve_all};
@@ -67,9 +67,11 @@ fn load_of(words: &str) -> Option<Load> {
 
 // What comes from other servers.
 fn incoming_of(words: &str) -> Option<Incoming> {
-    let (threads, transactions) = words.split_once(' ')?;
+    let (threads, words) = words.split_once(' ')?;
+    let (rooms, transactions) = words.split_once(' ')?;
     Some(Incoming {
         threads: threads.parse().ok()?,
+        rooms: rooms.parse().ok()?,
         transactions: transactions.parse().ok()?,
     })
 }

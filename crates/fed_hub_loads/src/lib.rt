@@ -6,6 +6,7 @@
 //! - `carrier`: a carrier that answers from memory, and a clock that stands
 //! - `serving`: `Incoming`, what comes from other servers, and `serve_all`, which stores it meanwhile
 //! - `requests`: transactions of another server
+//! - `setups`: a server with others and rooms of a user of each, and what is said there
 //! - `tally`: what the threads of a load have done
 #![tactic(auto)]
 
@@ -14,6 +15,7 @@ mod figures;
 mod requests;
 mod sending;
 mod serving;
+mod setups;
 mod stop;
 mod tally;
 

@@ -1,23 +1,19 @@
 // Clients that send through one hub.
-ghost use Rattle.std.specs.Prelude.{◌≡◌, Some, length, IfSome};
+ghost use Rattle.std.specs.Prelude.{◌≡◌, length};
 ghost use Rattle.fed_hub.specs.Named.{AreNamesOf};
 ghost use Rattle.fed_hub.specs.Setup.{ids_of};
 ghost use Rattle.fed_keys.specs.StandIn.{stand_in_checks};
-ghost use Rattle.fed_dest.specs.List.{place_of};
 
 use crate::carrier::{Answering, Standing};
 use crate::figures::{Figures, Looks};
-use crate::requests::json;
+use crate::setups::{draft, setup};
 use crate::stop::Stop;
 use crate::tally::{MOST_THREADS, Tally};
-use fed_dest::{List, ServerIndex, ServerName};
+use fed_dest::ServerIndex;
 use fed_event::StandIn;
 use fed_hub::{
-    ClientToken, Hub, KeptRoom, Naming, Opened, Ran, Seat, SenderToken, ServingNaming, Setup,
-    Tokens,
+    ClientToken, Hub, Naming, Opened, Ran, Seat, SenderToken, ServingNaming, Setup, Tokens,
 };
-use fed_room::started;
-use fed_room_contract::Draft;
 use std::alloc::Global;
 use std::marker::Brand;
 use std::sync::Wait;
@@ -25,8 +21,6 @@ use std::thread::{self, Threads, join};
 use std::time::{Clock, Instant};
 
 const SERVERS: [&str; 4] = ["a", "b", "c", "d"];
-
-const USERS: [&str; 4] = ["@u:a", "@v:b", "@w:c", "@x:d"];
 
 /// How many clients there are, how many rooms, and how many events all clients send.
 #[derive(Clone, Copy)]
@@ -55,7 +49,7 @@ pub fn send_all<R: Threads + Wait + Clock + Sync>(
     alloc: Global,
     load: Load,
 ) -> Result<Figures, Stop> {
-    let setup = setup(alloc, load.rooms).ok_or(Stop::Refused)?;
+    let setup = setup(alloc, &SERVERS, load.rooms).ok_or(Stop::Refused)?;
     let opened = Opened::new(alloc, setup.list.len(), setup.rooms.len(), load.clients, 1)?;
     let start = Instant::now(rt)?;
     let events = load
@@ -71,49 +65,6 @@ pub fn send_all<R: Threads + Wait + Clock + Sync>(
         counts,
         micros: start.elapsed(rt)?.as_micros(),
         looks: Looks::new(),
-    })
-}
-
-fn text(alloc: Global, text: &str) -> Option<String> {
-    String::from_str(alloc, text).ok()
-}
-
-// The id of a room.
-fn room_id(alloc: Global, number: u64) -> Option<String> {
-    format!(in alloc; "!{number}:a").ok()
-}
-
-// The server a, with so many rooms of a user of each server.
-fn setup(alloc: Global, count: u64) -> Option<Setup<StandIn>>
-    ensures { IfSome result (λ setup. (length setup.list ≡ 4) × (place_of setup.list setup.own ≡ Some 0)) }
-{
-    let mut names = Vec::new(alloc);
-    let mut keys = Vec::new(alloc);
-    let mut users = Vec::new(alloc);
-    for name in SERVERS {
-        names.push(ServerName::read(alloc, name).ok()?).ok()?;
-        keys.push(StandIn::new(text(alloc, name)?)).ok()?;
-    }
-    for user in USERS {
-        users.push(text(alloc, user)?).ok()?;
-    }
-    let list = List::new(names).ok()?;
-    let own = ServerName::read(alloc, "a").ok()?;
-    if list.len() != 4 || list.find(own.as_str()) != Some(ServerIndex::new(0)) {
-        return None;
-    }
-    let mut rooms = Vec::new(alloc);
-    for number in 0..count {
-        let room = started(alloc, &room_id(alloc, number)?, &users, &keys).ok()?;
-        rooms.push(KeptRoom::start(alloc, "a", room).ok()?).ok()?;
-    }
-    let keys = StandIn::new(text(alloc, "a")?);
-    Some(Setup {
-        own,
-        list,
-        rooms,
-        keys,
-        epoch: 1,
     })
 }
 
@@ -200,7 +151,7 @@ fn send<N: Naming + ServingNaming, R: Wait>(
 ) -> u64 {
     for count in 0..share.events {
         let room = count.checked_rem(share.rooms).unwrap_or(0);
-        let Some(draft) = draft(alloc, room) else {
+        let Some(draft) = draft(alloc, room, "a") else {
             return count;
         };
         if hub.send(rt, alloc, client, draft).is_err() {
@@ -208,17 +159,6 @@ fn send<N: Naming + ServingNaming, R: Wait>(
         }
     }
     share.events
-}
-
-fn draft(alloc: Global, room: u64) -> Option<Draft> {
-    Some(Draft {
-        room: room_id(alloc, room)?,
-        sender: text(alloc, "@u:a")?,
-        kind: text(alloc, "m.room.message")?,
-        state_key: None,
-        content: json(alloc, b"{\"body\":\"hello\",\"msgtype\":\"m.text\"}").ok()?,
-        at_ms: 0,
-    })
 }
 
 // Delivers all for each destination, in a thread for each.

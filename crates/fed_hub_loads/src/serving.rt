@@ -1,20 +1,19 @@
 // Threads that serve, each for a server of its own.
-ghost use Rattle.std.specs.Prelude.{◌≡◌, Some, length, IfSome};
-ghost use Rattle.fed_dest.specs.List.{place_of};
+ghost use Rattle.std.specs.Prelude.{◌≡◌};
 ghost use Rattle.fed_hub.specs.Named.{AreNamesOf};
 ghost use Rattle.fed_hub.specs.Setup.{ids_of};
 ghost use Rattle.fed_keys.specs.StandIn.{stand_in_checks};
 
 use crate::figures::{Figures, Looks};
-use crate::requests::{ROOM, requests};
+use crate::requests::requests;
+use crate::setups::{room_id, setup};
 use crate::stop::Stop;
 use crate::tally::{MOST_THREADS, Tally};
-use fed_dest::{List, ServerIndex, ServerName};
 use fed_event::StandIn;
 use fed_hub::{
-    Hub, KeptRoom, Naming, Opened, Ran, RoomToken, ServeToken, Served, ServingNaming, Setup, Tokens,
+    Hub, HubFault, Naming, Opened, Ran, RoomToken, ServeToken, Served, ServingNaming, Setup, Tokens,
 };
-use fed_room::started;
+use fed_room_contract::RoomEngine;
 use std::alloc::Global;
 use std::io::{Read, Write};
 use std::marker::Brand;
@@ -22,19 +21,30 @@ use std::sync::Wait;
 use std::thread::{self, Threads, join};
 use std::time::{Clock, Duration, Instant};
 
-/// The servers, of which the first serves the others.
+// The servers, of which the first serves the others.
 const SERVERS: [&str; 9] = ["a", "b", "c", "d", "e", "f", "g", "h", "i"];
+
+// How many rooms the others are in, with a user of each.
+const ROOMS: u64 = 8;
 
 // How often the lock of the inbox is looked at, at most, and after how many microseconds again.
 const MOST_LOOKS: u64 = 100_000_000;
 
 const BETWEEN: u64 = 50;
 
-/// How many threads serve, at most eight, and how many transactions come to each.
+/// How many threads serve, at most eight; how many of eight rooms the server is in; and how many transactions come to each thread.
 #[derive(Clone, Copy)]
 pub struct Incoming {
     pub threads: usize,
+    pub rooms: u64,
     pub transactions: u64,
+}
+
+impl Incoming {
+    // The transactions of one server.
+    fn requests(self, alloc: Global, origin: &str) -> Option<Vec<Vec<u8>>> {
+        requests(alloc, &SERVERS, origin, ROOMS, self.transactions)
+    }
 }
 
 // What a thread holds that serves.
@@ -44,9 +54,10 @@ struct Server<N: ServingNaming> {
     requests: Vec<Vec<u8>>,
 }
 
-/// Makes a hub of nine servers with a room, and threads that serve, each of which answers transactions of a server of its own, of 50 events each,
-/// while another thread gives the room what they bring, and one more looks at the inbox's lock now and then. How many were answered, as a line,
-/// and the time, in which the transactions are not made.
+/// Makes a hub of nine servers with rooms of a user of each, and threads that serve, each of which answers transactions of a server of its own, of
+/// 50 events each, of eight rooms in turn, while a thread for each room of the hub stores what they bring for it, and one more looks at the inbox's
+/// lock now and then. Events of other rooms are taken, and go to none. How many transactions were answered and how many events were stored, as a
+/// line, and the time, in which the transactions are not made.
 ///
 /// # Errors
 ///
@@ -56,41 +67,13 @@ pub fn serve_all<R: Threads + Wait + Clock + Sync>(
     alloc: Global,
     incoming: Incoming,
 ) -> Result<Figures, Stop> {
-    let setup = setup(alloc).ok_or(Stop::Refused)?;
+    let setup = setup(alloc, &SERVERS, incoming.rooms).ok_or(Stop::Refused)?;
     let opened = Opened::new(alloc, setup.list.len(), setup.rooms.len(), 0, 0)?;
     let mut all = Vec::new(alloc);
     for origin in SERVERS.iter().skip(1).take(incoming.threads) {
-        all.push(requests(alloc, *origin, incoming.transactions)?)?;
+        all.push(incoming.requests(alloc, *origin).ok_or(Stop::Refused)?)?;
     }
-    run::<Brand, _>(rt, alloc, setup, opened, all)
-}
-
-// The server a, with a room of a user of its own.
-fn setup(alloc: Global) -> Option<Setup<StandIn>>
-    ensures { IfSome result (λ setup. place_of setup.list setup.own ≡ Some 0) }
-{
-    let mut names = Vec::new(alloc);
-    for name in SERVERS {
-        names.push(ServerName::read(alloc, name).ok()?).ok()?;
-    }
-    let list = List::new(names).ok()?;
-    let own = ServerName::read(alloc, "a").ok()?;
-    if list.find(own.as_str()) != Some(ServerIndex::new(0)) {
-        return None;
-    }
-    Some(Setup {
-        own,
-        list,
-        rooms: vec![in alloc; room(alloc)?].ok()?,
-        keys: StandIn::new(String::from_str(alloc, "a").ok()?),
-        epoch: 1,
-    })
-}
-
-fn room(alloc: Global) -> Option<KeptRoom> {
-    let users = vec![in alloc; String::from_str(alloc, "@u:a").ok()?].ok()?;
-    let keys = vec![in alloc; StandIn::new(String::from_str(alloc, "a").ok()?)].ok()?;
-    KeptRoom::start(alloc, "a", started(alloc, ROOM, &users, &keys).ok()?).ok()
+    run::<Brand, _>(rt, alloc, setup, opened, all, incoming.rooms)
 }
 
 fn run<N: Naming + ServingNaming + Send + Sync, R: Threads + Wait + Clock + Sync>(
@@ -99,30 +82,57 @@ fn run<N: Naming + ServingNaming + Send + Sync, R: Threads + Wait + Clock + Sync
     setup: Setup<StandIn>,
     opened: Opened,
     requests: Vec<Vec<Vec<u8>>>,
+    count: u64,
 ) -> Result<Figures, Stop>
     requires named { AreNamesOf setup.own setup.list (ids_of setup.rooms.items) stand_in_checks opened N.wires N.own N.board N.events N.edus N.parts N.known N.rooms N.checks N.receiver N.beginning }
 {
-    let (hub, tokens) = Hub::<N, StandIn>::new(alloc, setup, opened)?;
+    let (hub, tokens) = made::<N>(alloc, setup, opened)?;
+    measured(rt, alloc, &hub, tokens, requests, count)
+}
+
+// `Hub::new`.
+fn made<N: Naming + ServingNaming>(
+    alloc: Global,
+    setup: Setup<StandIn>,
+    opened: Opened,
+) -> Result<(Hub<N, StandIn>, Tokens<N>), HubFault>
+    requires named { AreNamesOf setup.own setup.list (ids_of setup.rooms.items) stand_in_checks opened N.wires N.own N.board N.events N.edus N.parts N.known N.rooms N.checks N.receiver N.beginning }
+{
+    Hub::<N, StandIn>::new(alloc, setup, opened)
+}
+
+// What the requests come to, at a hub of so many rooms.
+fn measured<N: Naming + ServingNaming + Send + Sync, R: Threads + Wait + Clock + Sync>(
+    rt: &R,
+    alloc: Global,
+    hub: &Hub<N, StandIn>,
+    tokens: Tokens<N>,
+    requests: Vec<Vec<Vec<u8>>>,
+    count: u64,
+) -> Result<Figures, Stop> {
     let Tokens {
         mut rooms,
         servers,
         ..
     } = tokens;
-    let room = rooms.first_mut().ok_or(Stop::Refused)?;
     let mut servers = with_requests(alloc, servers, requests)?;
     let tally = Tally::new();
     let start = Instant::now(rt)?;
-    let (ran, looks) = at_once(rt, alloc, &hub, &mut servers, room, &tally);
+    let looks = at_once(rt, alloc, hub, &mut servers, &mut rooms, &tally);
     let micros = start.elapsed(rt)?.as_micros();
-    if ran != Ran::Drained || tally.has_failed() {
+    if tally.has_failed() {
         return Err(Stop::Refused);
     }
-    let served = tally.done();
+    let stored = stored(alloc, hub, count).ok_or(Stop::Refused)?;
     Ok(Figures {
-        counts: format!(in alloc; "served {served}")?,
+        counts: counts(alloc, tally.done(), stored)?,
         micros,
         looks,
     })
+}
+
+fn counts(alloc: Global, served: u64, stored: u64) -> Result<String, Stop> {
+    Ok(format!(in alloc; "served {served}, stored {stored}")?)
 }
 
 // A thread for the requests of each server.
@@ -138,20 +148,21 @@ fn with_requests<N: ServingNaming>(
     Ok(servers)
 }
 
-// The requests are answered, and the room is given all that comes meanwhile: how that ended, and how the inbox's lock was found.
+// The requests are answered, and all that they bring is stored meanwhile: how the inbox's lock was found.
 fn at_once<N: Naming + ServingNaming + Send + Sync, R: Threads + Wait + Clock + Sync>(
     rt: &R,
     alloc: Global,
     hub: &Hub<N, StandIn>,
     servers: &mut [Server<N>],
-    room: &mut RoomToken<N>,
+    rooms: &mut [RoomToken<N>],
     tally: &Tally,
-) -> (Ran, Looks) {
-    join(
+) -> Looks {
+    let ((), looks) = join(
         rt,
-        || serve_and_store(rt, alloc, hub, servers, room, tally),
+        || serve_and_store(rt, alloc, hub, servers, rooms, tally),
         || look(rt, hub, tally),
-    )
+    );
+    looks
 }
 
 // The same, but for the lock.
@@ -160,15 +171,62 @@ fn serve_and_store<N: Naming + ServingNaming + Send + Sync, R: Threads + Wait + 
     alloc: Global,
     hub: &Hub<N, StandIn>,
     servers: &mut [Server<N>],
-    room: &mut RoomToken<N>,
+    rooms: &mut [RoomToken<N>],
     tally: &Tally,
-) -> Ran {
-    let ((), ran) = join(
+) {
+    join(
         rt,
         || answer_all(rt, alloc, hub, servers, tally),
-        || hub.run_room(rt, alloc, room, u64::MAX),
+        || store_all(rt, alloc, hub, rooms, tally),
     );
-    ran
+}
+
+// A thread for each room stores what comes for it.
+fn store_all<N: Naming + ServingNaming + Send + Sync, R: Threads + Wait + Sync>(
+    rt: &R,
+    alloc: Global,
+    hub: &Hub<N, StandIn>,
+    rooms: &mut [RoomToken<N>],
+    tally: &Tally,
+) {
+    thread::for_each_mut(
+        rt,
+        rooms,
+        MOST_THREADS,
+        &|_place, room| store(rt, alloc, hub, room, tally),
+    );
+}
+
+fn store<N: Naming + ServingNaming, R: Wait>(
+    rt: &R,
+    alloc: Global,
+    hub: &Hub<N, StandIn>,
+    room: &mut RoomToken<N>,
+    tally: &Tally,
+) {
+    if hub.run_room(rt, alloc, room, u64::MAX) != Ran::Drained {
+        tally.fail();
+    }
+}
+
+// How many events so many rooms stored since they began.
+fn stored<N: Naming + ServingNaming>(
+    alloc: Global,
+    hub: &Hub<N, StandIn>,
+    rooms: u64,
+) -> Option<u64> {
+    let mut count = 0u64;
+    for number in 0..rooms {
+        count = count.saturating_add(stored_in(hub, &room_id(alloc, number)?)?);
+    }
+    Some(count)
+}
+
+// How many the room of this id stored.
+fn stored_in<N: Naming + ServingNaming>(hub: &Hub<N, StandIn>, id: &str) -> Option<u64> {
+    let room = hub.room(id)?.try_lock()?;
+    let stored = room.room().graph().len();
+    Some(stored.saturating_sub(room.start_events().len()) as u64)
 }
 
 // Looks at the inbox's lock until all requests are answered.

@@ -1,8 +1,8 @@
 use mathlib.Core.List.{[], ◌∷◌}
 use denote.Exit.{no}
 use denote.Param.{param}
-use denote.Param.Send.{shr_send, mut_send, mut_slice_send}
-use denote.Ref.{ShrRef, MutRef}
+use denote.Param.Send.{shr_send, mut_slice_send}
+use denote.Ref.{ShrRef}
 use denote.Slice.{MutSlice}
 use Rattle.std.specs.contracts.alloc.Global as global_type
 use Rattle.std.proofs.alloc.Global.TheSendSync as global
@@ -26,13 +26,13 @@ join-requires-send-F g c κs within =
     let Hub = hub.the_row N stand_in_type.the_row g.N.Naming g.N.ServingNaming signs.ghosts in
     let Server = server_type.the_row N g.N.ServingNaming in
     let Room = room_type.the_row N g.N.ServingNaming in
-    captures_send 1 _ no _ (ShrRef _ _ R ∷ ShrRef _ _ global_type.the_row ∷ ShrRef _ _ Hub ∷ MutSlice _ _ Server ∷ MutRef _ _ Room ∷ ShrRef _ _ tally_type.the_row ∷ []) (
+    captures_send 1 _ no _ (ShrRef _ _ R ∷ ShrRef _ _ global_type.the_row ∷ ShrRef _ _ Hub ∷ MutSlice _ _ Server ∷ MutSlice _ _ Room ∷ ShrRef _ _ tally_type.the_row ∷ []) (
       shr_send _ _ R c.type_bounds.sync-R,
       (
         shr_send _ _ global_type.the_row global.the_sync,
         (
           shr_send _ _ Hub (hub_sync N stand_in_type.the_row g.N.Naming g.N.ServingNaming signs.ghosts stand_in.the_sync),
-          (mut_slice_send _ _ Server (server_send N g.N.ServingNaming), (mut_send _ _ Room (room_token_send N g.N.ServingNaming), (shr_send _ _ tally_type.the_row tally.the_sync, tt))),
+          (mut_slice_send _ _ Server (server_send N g.N.ServingNaming), (mut_slice_send _ _ Room (room_token_send N g.N.ServingNaming), (shr_send _ _ tally_type.the_row tally.the_sync, tt))),
         ),
       ),
     )

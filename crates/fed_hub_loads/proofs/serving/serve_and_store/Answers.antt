@@ -17,8 +17,8 @@ use Rattle.fed_hub_loads.specs.contracts.tally.Tally as tally_type
 use Rattle.fed_hub_loads.proofs.tally.Tally.TheSendSync as tally
 use Rattle.fed_hub_loads.proofs.serving.serve_and_store.Goals as goal
 
-pub join-ran-requires-send-F : goal.join-ran-requires-send-F
-join-ran-requires-send-F g c κs within =
+pub join-requires-send-F : goal.join-requires-send-F
+join-requires-send-F g c κs within =
     let N = param 0 g.row.N in
     let R = param 1 g.row.R in
     let Hub = hub.the_row N stand_in_type.the_row g.N.Naming g.N.ServingNaming signs.ghosts in
