@@ -1,0 +1,253 @@
+/*
+ * Wikzord's federation core for programs in C: Matrix's canonical JSON, events, requests and transactions.
+ *
+ * One form. What a function reads comes as a pointer and a length in bytes; a text needs no null byte at its end, and may hold some. What it
+ * makes goes into a buffer of the caller's: `out`, which has room for `out_len` bytes. How many bytes the whole answer takes is written to
+ * `*needed`. What is returned is a `wikzord_status`:
+ *
+ *     WIKZORD_DONE               the answer stands in the first `*needed` bytes of `out`, and what was behind them is as it was.
+ *     WIKZORD_BUFFER_TOO_SMALL   the answer has `*needed` bytes, which is more than `out_len`. Nothing else is written. To ask for the length
+ *                                alone, call with `out_len` 0.
+ *     any other                  nothing is written, neither to `out` nor to `*needed`.
+ *
+ * No answer ends with a null byte. Two calls with the same bytes give the same answer, but WIKZORD_MEMORY may come in its place each time.
+ *
+ * Pointers. Every pointer is given, and never null: for no bytes give the address of any byte, and the length 0. `out` and what `needed`,
+ * `field` and `part` point to are the call's alone while it runs: they lie apart from each other and from what the call reads. A length is
+ * below 2^63. The caller owns every buffer, before and after.
+ *
+ * Lists. A list comes as the JSON text of an array, and is given as one.
+ *
+ * Memory. A function takes memory by malloc, and gives all of it back by free before it returns. Nothing is kept between calls, and there is
+ * no state: calls may run in any number of threads at once. None may be made from a signal handler, or in the child of a fork of a process
+ * with several threads.
+ */
+#ifndef WIKZORD_H
+#define WIKZORD_H
+
+#include <stdbool.h>
+#include <stddef.h>
+#include <stdint.h>
+
+#ifdef __cplusplus
+extern "C" {
+#endif
+
+/* How a call ends. */
+enum wikzord_status {
+    WIKZORD_DONE = 0,
+    WIKZORD_BUFFER_TOO_SMALL = 1, /* the answer takes more bytes than `out` has: `*needed` says how many */
+    WIKZORD_MEMORY = 2,           /* memory ran out; the call can be made again */
+    WIKZORD_NOT_JSON = 3,         /* not UTF-8, or no JSON text, or one that nests deeper than 127 levels */
+    WIKZORD_NOT_CANONICAL = 4,    /* a number is not a whole one from -(2^53)+1 to 2^53-1, or is not written as one */
+    WIKZORD_TOO_DEEP = 5,         /* the value nests deeper than it may: an event 100 levels */
+    WIKZORD_HASH_DIFFERS = 6,     /* the hash that an event gives is not its content hash, or it gives none */
+    WIKZORD_NOT_UTF8 = 7,         /* a text is not UTF-8 */
+    WIKZORD_MISSING_FIELD = 8,    /* a field that an event may not lack is not there */
+    WIKZORD_WRONG_KIND = 9,       /* a field has a value of another kind than it may have, or the event is no object */
+    WIKZORD_EVENT_TOO_LARGE = 10, /* the canonical text of an event, signatures and all, has more than 65,536 bytes */
+    WIKZORD_FIELD_TOO_LONG = 11,  /* the text of a field has more than 255 bytes */
+    WIKZORD_TOO_MANY_IDS = 12,    /* a field names more than 10 auth events or 20 prev events */
+    WIKZORD_BODY_TOO_LARGE = 13,  /* the body of a transaction has more than 16,777,216 bytes */
+    WIKZORD_BAD_BODY = 14,        /* a part of the body of a transaction is missing or of another kind */
+    WIKZORD_TOO_MANY_PDUS = 15,   /* a transaction has more than 50 events */
+    WIKZORD_TOO_MANY_EDUS = 16,   /* a transaction has more than 100 ephemeral data units */
+    WIKZORD_BAD_VERDICTS = 17,    /* the value is no object of verdicts */
+    WIKZORD_BAD_HEADER = 18,      /* the text of an Authorization field is none of the scheme X-Matrix */
+    WIKZORD_BAD_SIGNATURE = 19,   /* a signature has not 64 bytes */
+    WIKZORD_NOT_SIGNED = 20,      /* an event has no signature of its sender's server */
+    WIKZORD_BAD_EVENTS = 21,      /* the value is no array of the events of a room, each behind those that it names */
+    WIKZORD_BAD_STATE = 22        /* the value is no array of the ids of state events of the room, or no array of such arrays */
+};
+
+/* A field of an event; WIKZORD_FIELD_EVENT stands for the event itself. */
+enum wikzord_field {
+    WIKZORD_FIELD_EVENT = 0,
+    WIKZORD_FIELD_AUTH_EVENTS = 1,
+    WIKZORD_FIELD_CONTENT = 2,
+    WIKZORD_FIELD_DEPTH = 3,
+    WIKZORD_FIELD_HASHES = 4,
+    WIKZORD_FIELD_ORIGIN_SERVER_TS = 5,
+    WIKZORD_FIELD_PREV_EVENTS = 6,
+    WIKZORD_FIELD_ROOM_ID = 7,
+    WIKZORD_FIELD_SENDER = 8,
+    WIKZORD_FIELD_SIGNATURES = 9,
+    WIKZORD_FIELD_STATE_KEY = 10,
+    WIKZORD_FIELD_TYPE = 11
+};
+
+/* A part of the body of a transaction; WIKZORD_PART_BODY stands for the body itself. */
+enum wikzord_part {
+    WIKZORD_PART_BODY = 0,
+    WIKZORD_PART_ORIGIN = 1,
+    WIKZORD_PART_ORIGIN_SERVER_TS = 2,
+    WIKZORD_PART_PDUS = 3,
+    WIKZORD_PART_EDUS = 4
+};
+
+/* ---- values and events. A value need not be an event to have these texts. ---- */
+
+/*
+ * The canonical text of the value of a JSON text that nests at most `levels` deep (appendix "Canonical JSON"); more than 127 levels are
+ * never read. Of a key that an object names twice the last value counts.
+ *
+ * The first of WIKZORD_NOT_JSON, WIKZORD_NOT_CANONICAL and WIKZORD_TOO_DEEP that is so.
+ */
+uint32_t wikzord_canonical(const uint8_t *text, size_t text_len, size_t levels, uint8_t *out, size_t out_len, size_t *needed);
+
+/*
+ * The canonical text of what redaction leaves of an event (room version 10, "Redactions").
+ *
+ * WIKZORD_NOT_JSON, or WIKZORD_NOT_CANONICAL.
+ */
+uint32_t wikzord_redaction(const uint8_t *text, size_t text_len, uint8_t *out, size_t out_len, size_t *needed);
+
+/*
+ * The bytes of an event that its servers sign (Server-Server API, "Signing Events"). Sign and check them with Ed25519 of your own.
+ *
+ * WIKZORD_NOT_JSON, or WIKZORD_NOT_CANONICAL.
+ */
+uint32_t wikzord_signed_text(const uint8_t *text, size_t text_len, uint8_t *out, size_t out_len, size_t *needed);
+
+/*
+ * The id of an event (room version 4, "Event IDs"): always 44 bytes.
+ *
+ * WIKZORD_NOT_JSON, or WIKZORD_NOT_CANONICAL.
+ */
+uint32_t wikzord_event_id(const uint8_t *text, size_t text_len, uint8_t *out, size_t out_len, size_t *needed);
+
+/*
+ * The content hash of an event (Server-Server API, "Calculating the content hash for an event"): always 43 bytes of unpadded base64.
+ *
+ * WIKZORD_NOT_JSON, or WIKZORD_NOT_CANONICAL.
+ */
+uint32_t wikzord_content_hash(const uint8_t *text, size_t text_len, uint8_t *out, size_t out_len, size_t *needed);
+
+/*
+ * Whether the hash that an event gives at `hashes.sha256` is its content hash.
+ *
+ * WIKZORD_DONE where it is, WIKZORD_HASH_DIFFERS where it is another or there is none; WIKZORD_NOT_JSON, or WIKZORD_NOT_CANONICAL.
+ */
+uint32_t wikzord_hash_fits(const uint8_t *text, size_t text_len);
+
+/*
+ * The first of the tests that an event fails (Server-Server API, "Checks performed on receipt of a PDU", check 1): WIKZORD_DONE where it
+ * passes all. The tests in their order: WIKZORD_NOT_JSON, WIKZORD_NOT_CANONICAL, WIKZORD_TOO_DEEP, WIKZORD_WRONG_KIND of
+ * WIKZORD_FIELD_EVENT, WIKZORD_EVENT_TOO_LARGE, WIKZORD_MISSING_FIELD, WIKZORD_WRONG_KIND, WIKZORD_FIELD_TOO_LONG, WIKZORD_TOO_MANY_IDS.
+ *
+ * The number of the field, a `wikzord_field`, is written to `*field` where the status is one of a field; else `*field` stays as it is.
+ */
+uint32_t wikzord_event_test(const uint8_t *text, size_t text_len, uint32_t *field);
+
+/*
+ * The text of the first test that an event fails, as a transaction's reply gives it, such as `missing field: sender`; no bytes where the
+ * event passes all.
+ */
+uint32_t wikzord_event_error(const uint8_t *text, size_t text_len, uint8_t *out, size_t out_len, size_t *needed);
+
+/*
+ * At which types and state keys of a state the auth events of an event stand (Server-Server API, "Auth events selection"): the canonical text
+ * of an array of arrays, each of a type and a state key, such as `[["m.room.create",""],["m.room.member","@u:a.example"]]`. Where a state has
+ * nothing at one of them, there is no auth event for it; a key may stand there twice.
+ *
+ * The status of the first test that the event fails, as wikzord_event_test tells it.
+ */
+uint32_t wikzord_auth_selection(const uint8_t *text, size_t text_len, uint8_t *out, size_t out_len, size_t *needed);
+
+/* ---- requests and transactions ---- */
+
+/*
+ * The bytes that are signed for a request (Server-Server API, "Request Authentication"), by its method, its target as it is written, the
+ * names of the server that sends and of the one that receives, and its body, `content`, as it is sent. Without a body give no bytes. The
+ * result is the canonical JSON of that section where the body is a canonical text.
+ *
+ * WIKZORD_NOT_UTF8 where one of the four texts is not UTF-8.
+ */
+uint32_t wikzord_request_text(const uint8_t *method, size_t method_len, const uint8_t *target, size_t target_len,
+                              const uint8_t *origin, size_t origin_len, const uint8_t *destination, size_t destination_len,
+                              const uint8_t *content, size_t content_len, uint8_t *out, size_t out_len, size_t *needed);
+
+/*
+ * What the text of a request's Authorization field says by the scheme X-Matrix (Server-Server API, "Request Authentication"): the name of the
+ * server that sends; the name of the one that it is sent to, or no bytes where the field names none; the name of the sender's key; and the
+ * signature by this key, always 64 bytes.
+ *
+ * WIKZORD_NOT_UTF8, or WIKZORD_BAD_HEADER.
+ */
+uint32_t wikzord_x_matrix_origin(const uint8_t *header, size_t header_len, uint8_t *out, size_t out_len, size_t *needed);
+uint32_t wikzord_x_matrix_destination(const uint8_t *header, size_t header_len, uint8_t *out, size_t out_len, size_t *needed);
+uint32_t wikzord_x_matrix_key(const uint8_t *header, size_t header_len, uint8_t *out, size_t out_len, size_t *needed);
+uint32_t wikzord_x_matrix_signature(const uint8_t *header, size_t header_len, uint8_t *out, size_t out_len, size_t *needed);
+
+/*
+ * The text of a request's Authorization field by the scheme X-Matrix, by the names of the server that sends, of the one that it is sent to and
+ * of the sender's key, and by the signature, 64 bytes. Without a destination, no bytes, the field names none. The functions above read the
+ * same parts in it.
+ *
+ * WIKZORD_NOT_UTF8 where a name is not UTF-8, else WIKZORD_BAD_SIGNATURE.
+ */
+uint32_t wikzord_x_matrix_header(const uint8_t *origin, size_t origin_len, const uint8_t *destination, size_t destination_len,
+                                 const uint8_t *key, size_t key_len, const uint8_t *signature, size_t signature_len,
+                                 uint8_t *out, size_t out_len, size_t *needed);
+
+/*
+ * The first fault of the body of a transaction (Server-Server API, "Transactions"), whose events are not tested: WIKZORD_DONE where it has
+ * none; else the first of WIKZORD_BODY_TOO_LARGE, WIKZORD_NOT_JSON, WIKZORD_NOT_CANONICAL, WIKZORD_BAD_BODY, WIKZORD_TOO_MANY_PDUS and
+ * WIKZORD_TOO_MANY_EDUS that is so.
+ *
+ * The number of the part, a `wikzord_part`, is written to `*part` where the status is WIKZORD_BAD_BODY; else `*part` stays as it is.
+ */
+uint32_t wikzord_transaction_test(const uint8_t *body, size_t body_len, uint32_t *part);
+
+/*
+ * The text of the first fault of the body of a transaction, as the `error` member of a standard error reply gives it, such as
+ * `bad field: pdus`; no bytes where the body has none.
+ */
+uint32_t wikzord_transaction_error(const uint8_t *body, size_t body_len, uint8_t *out, size_t out_len, size_t *needed);
+
+/*
+ * The body of the reply to a transaction (Server-Server API, "Transactions"). The verdicts are a JSON object that has under the id of each
+ * event a text: that of the error with which the event was refused, as wikzord_event_error gives it, or an empty one where it was taken.
+ *
+ * WIKZORD_NOT_JSON, or WIKZORD_NOT_CANONICAL; WIKZORD_BAD_VERDICTS where the value is no such object.
+ */
+uint32_t wikzord_reply(const uint8_t *verdicts, size_t verdicts_len, uint8_t *out, size_t out_len, size_t *needed);
+
+/*
+ * ---- rooms ----
+ *
+ * `events` is an array of the events of a room. Each stands behind the events that it names as prev events and as auth events, which all stand
+ * there, and none stands there twice. Each passes the tests of wikzord_event_test and has a signature of its sender's server; whether
+ * signatures check is the caller's to see before. Of an event whose content hash does not fit the redaction is looked at. `state` is an array
+ * of the ids of the events that hold in a state of the room: each is a state event of `events`, and of two at one type and state key the
+ * later one holds.
+ *
+ * Each function returns WIKZORD_NOT_JSON or WIKZORD_NOT_CANONICAL where one of these is no JSON text of whole numbers, WIKZORD_BAD_EVENTS
+ * where `events` is no such array, and WIKZORD_BAD_STATE where `state` is none.
+ */
+
+/*
+ * Whether a room allows an event (room version 10, "Authorization rules"), by the state before it, or any other: no bytes where it does, so
+ * that `*needed` is 0; else three bytes, the numbers of the rule that rejects it, of the rule's condition and of the condition's branch, each
+ * 0 where there is none: 4, 3 and 7 for rule 4.3.7. Rule 2, on the auth events that the event names, is not looked at, but by 2.4 a state
+ * without a create event rejects all but a create event. `authorised` tells whether the signatures of other servers than the sender's have
+ * checked, which the rules ask of the server of `join_authorised_via_users_server`.
+ *
+ * Then, the status of the first test that the event fails, as wikzord_event_test tells it, or WIKZORD_NOT_SIGNED.
+ */
+uint32_t wikzord_allowed(const uint8_t *text, size_t text_len, const uint8_t *events, size_t events_len, const uint8_t *state, size_t state_len,
+                         bool authorised, uint8_t *out, size_t out_len, size_t *needed);
+
+/*
+ * The state that several states of a room resolve to (room version 2, "State resolution"): the canonical text of an array of the ids of its
+ * events, in the order of their types and, within a type, of their state keys. `states` is an array of states, and `rejected` an array of the
+ * ids of the events that were rejected, by their auth events or by the state before them; what else stands there counts for nothing.
+ */
+uint32_t wikzord_resolve(const uint8_t *events, size_t events_len, const uint8_t *rejected, size_t rejected_len,
+                         const uint8_t *states, size_t states_len, uint8_t *out, size_t out_len, size_t *needed);
+
+#ifdef __cplusplus
+}
+#endif
+
+#endif

@@ -1,0 +1,347 @@
+"""Wikzord's federation core: Matrix's canonical JSON, events, requests and transactions.
+
+A module over libwikzord.so, which c/build.sh builds: the file beside this one in out/, or the one that the environment's
+WIKZORD_LIBRARY names. Texts of JSON are given as bytes, or as a str, which is encoded in UTF-8. What a call refuses raises `Refused`, and
+memory that runs out `MemoryError`. Calls may run in any number of threads, and several at once: ctypes lets others run meanwhile.
+"""
+import ctypes
+import enum
+import json
+import os
+import pathlib
+import threading
+import typing
+
+
+class Status(enum.IntEnum):
+    """How a call ends: `enum wikzord_status` of wikzord.h."""
+
+    DONE = 0
+    BUFFER_TOO_SMALL = 1
+    MEMORY = 2
+    NOT_JSON = 3
+    NOT_CANONICAL = 4
+    TOO_DEEP = 5
+    HASH_DIFFERS = 6
+    NOT_UTF8 = 7
+    MISSING_FIELD = 8
+    WRONG_KIND = 9
+    EVENT_TOO_LARGE = 10
+    FIELD_TOO_LONG = 11
+    TOO_MANY_IDS = 12
+    BODY_TOO_LARGE = 13
+    BAD_BODY = 14
+    TOO_MANY_PDUS = 15
+    TOO_MANY_EDUS = 16
+    BAD_VERDICTS = 17
+    BAD_HEADER = 18
+    BAD_SIGNATURE = 19
+    NOT_SIGNED = 20
+    BAD_EVENTS = 21
+    BAD_STATE = 22
+
+
+class Field(enum.IntEnum):
+    """A field of an event: `enum wikzord_field`. EVENT stands for the event itself."""
+
+    EVENT = 0
+    AUTH_EVENTS = 1
+    CONTENT = 2
+    DEPTH = 3
+    HASHES = 4
+    ORIGIN_SERVER_TS = 5
+    PREV_EVENTS = 6
+    ROOM_ID = 7
+    SENDER = 8
+    SIGNATURES = 9
+    STATE_KEY = 10
+    TYPE = 11
+
+
+class Part(enum.IntEnum):
+    """A part of the body of a transaction: `enum wikzord_part`. BODY stands for the body itself."""
+
+    BODY = 0
+    ORIGIN = 1
+    ORIGIN_SERVER_TS = 2
+    PDUS = 3
+    EDUS = 4
+
+
+class Refused(ValueError):
+    """A call that gives no answer; `status` says why."""
+
+    def __init__(self, status: Status):
+        super().__init__(status.name.lower().replace("_", " "))
+        self.status = status
+
+
+class EventFault(typing.NamedTuple):
+    """The first test that an event fails, the field that fails it, where it is a test of one, and its text in a transaction's reply."""
+
+    status: Status
+    field: typing.Optional[Field]
+    error: str
+
+
+class TransactionFault(typing.NamedTuple):
+    """The first fault of a transaction's body, the part that has it, where it is a fault of one, and its text in an error reply."""
+
+    status: Status
+    part: typing.Optional[Part]
+    error: str
+
+
+class Rule(typing.NamedTuple):
+    """An authorization rule, a condition of it and a branch of that condition, 0 where there is none; its text is as `4.3.7`."""
+
+    section: int
+    condition: int
+    branch: int
+
+    def __str__(self):
+        return ".".join(str(part) for part in self if part)
+
+
+class XMatrix(typing.NamedTuple):
+    """What the Authorization field of a request says; `destination` is None where it names no receiver."""
+
+    origin: str
+    destination: typing.Optional[str]
+    key: str
+    signature: bytes
+
+
+Text = typing.Union[bytes, bytearray, memoryview, str]
+
+_HERE = pathlib.Path(__file__).resolve().parent
+_library = ctypes.CDLL(os.environ.get("WIKZORD_LIBRARY") or str(_HERE / "out" / "libwikzord.so"))
+
+# A function gets a text as bytes, and each other argument as a parameter of its C type. Most of these are made once, since ctypes takes about
+# as long to make them as a short call takes.
+
+
+def _function(name):
+    function = getattr(_library, "wikzord_" + name)
+    function.restype = ctypes.c_uint32
+    return function
+
+
+_canonical = _function("canonical")
+_redaction = _function("redaction")
+_signed_text = _function("signed_text")
+_event_id = _function("event_id")
+_content_hash = _function("content_hash")
+_hash_fits = _function("hash_fits")
+_event_test = _function("event_test")
+_event_error = _function("event_error")
+_request_text = _function("request_text")
+_auth_selection = _function("auth_selection")
+_x_matrix = [_function(f"x_matrix_{part}") for part in XMatrix._fields]
+_x_matrix_header = _function("x_matrix_header")
+_reply = _function("reply")
+_transaction_test = _function("transaction_test")
+_transaction_error = _function("transaction_error")
+_allowed = _function("allowed")
+_resolve = _function("resolve")
+
+_number = ctypes.c_size_t.from_param
+_truth = ctypes.c_bool.from_param
+
+# The lengths of most texts, and the levels of all.
+_NUMBERS = [_number(number) for number in range(4_096)]
+
+
+class _Output:
+    """A buffer, where a call tells the length of its answer, and both as the parameters of calls, made once."""
+
+    def __init__(self, size):
+        self.buffer, self.needed = ctypes.create_string_buffer(size), ctypes.c_size_t()
+        self.parameters = ctypes.byref(self.buffer), _number(size), ctypes.byref(self.needed)
+
+
+class _Outputs(threading.local):
+    """A thread's output, which its calls use one after another."""
+
+    def __init__(self):
+        output = _Output(65_536)
+        self.parts = output.buffer, output.needed, *output.parameters
+
+
+_outputs = _Outputs()
+
+
+def _bytes(text):
+    if type(text) is bytes:
+        return text
+    return text.encode() if isinstance(text, str) else bytes(text)
+
+
+def _refuse(status):
+    if status == Status.MEMORY:
+        raise MemoryError("wikzord")
+    raise Refused(Status(status))
+
+
+def _answer(function, *arguments):
+    """The bytes that a call makes."""
+    buffer, needed, *parameters = _outputs.parts
+    status = function(*arguments, *parameters)
+    if status:
+        return _long_answer(status, function, arguments, needed.value)
+    return buffer[: needed.value]
+
+
+def _text_answer(function, text):
+    """The bytes that a call makes of one text."""
+    if type(text) is not bytes:
+        text = _bytes(text)
+    length = len(text)
+    length = _NUMBERS[length] if length < 4_096 else _number(length)
+    buffer, needed, out, size, told = _outputs.parts
+    status = function(text, length, out, size, told)
+    if status:
+        return _long_answer(status, function, (text, length), needed.value)
+    return buffer[: needed.value]
+
+
+def _long_answer(status, function, arguments, needed):
+    """The bytes of a call that asks for a larger buffer; one that ends in another way is refused."""
+    if status != Status.BUFFER_TOO_SMALL:
+        _refuse(status)
+    output = _Output(needed)
+    status = function(*arguments, *output.parameters)
+    if status:
+        _refuse(status)
+    return output.buffer.raw
+
+
+def canonical(text: Text, levels: int = 127) -> bytes:
+    """The canonical text of the value of a JSON text that nests at most so deep. Refused: NOT_JSON, NOT_CANONICAL, TOO_DEEP."""
+    if levels < 0:
+        raise ValueError("levels below 0")
+    text = _bytes(text)
+    return _answer(_canonical, text, _number(len(text)), _NUMBERS[levels if levels < 127 else 127])
+
+
+def redaction(event: Text) -> bytes:
+    """The canonical text of what redaction leaves of an event. Refused: NOT_JSON, NOT_CANONICAL."""
+    return _text_answer(_redaction, event)
+
+
+def signed_text(event: Text) -> bytes:
+    """The bytes of an event that its servers sign. Refused: NOT_JSON, NOT_CANONICAL."""
+    return _text_answer(_signed_text, event)
+
+
+def event_id(event: Text) -> str:
+    """The id of an event. Refused: NOT_JSON, NOT_CANONICAL."""
+    return _text_answer(_event_id, event).decode()
+
+
+def content_hash(event: Text) -> str:
+    """The content hash of an event. Refused: NOT_JSON, NOT_CANONICAL."""
+    return _text_answer(_content_hash, event).decode()
+
+
+def hash_fits(event: Text) -> bool:
+    """Whether the hash that an event gives is its content hash. Refused: NOT_JSON, NOT_CANONICAL."""
+    status = _hash_fits(*_slices(event))
+    if status not in (Status.DONE, Status.HASH_DIFFERS):
+        _refuse(status)
+    return status == Status.DONE
+
+
+def event_fault(event: Text) -> typing.Optional[EventFault]:
+    """The first of the tests on receipt that an event fails, and None where it passes all."""
+    event = _bytes(event)
+    told = _fault(_event_test, _event_error, Field, event)
+    return told and EventFault(*told)
+
+
+def transaction_fault(body: Text) -> typing.Optional[TransactionFault]:
+    """The first fault of the body of a transaction, whose events are not tested, and None where it has none."""
+    body = _bytes(body)
+    told = _fault(_transaction_test, _transaction_error, Part, body)
+    return told and TransactionFault(*told)
+
+
+def _fault(test, error, places, text):
+    """The status of a text that fails a test, the place that is told, where one is, and the words; None where it passes."""
+    untold = 2**32 - 1
+    place = ctypes.c_uint32(untold)
+    status = test(*_slices(text), ctypes.byref(place))
+    if status == Status.DONE:
+        return None
+    if status == Status.MEMORY:
+        _refuse(status)
+    words = _text_answer(error, text).decode()
+    return Status(status), None if place.value == untold else places(place.value), words
+
+
+def request_text(method: Text, target: Text, origin: Text, destination: Text, content: Text = b"") -> bytes:
+    """The bytes that are signed for a request; `content` is its body as it is sent. Refused: NOT_UTF8."""
+    return _answer(_request_text, *_slices(method, target, origin, destination, content))
+
+
+def auth_selection(event: Text) -> typing.List[typing.Tuple[str, str]]:
+    """At which types and state keys of a state the auth events of an event stand, in their order. Refused: as the event's test fails."""
+    return [(kind, state_key) for kind, state_key in json.loads(_text_answer(_auth_selection, event))]
+
+
+def x_matrix(header: Text) -> XMatrix:
+    """What the text of an Authorization field says by the scheme X-Matrix. Refused: NOT_UTF8, BAD_HEADER."""
+    header = _bytes(header)
+    origin, destination, key, signature = (_text_answer(part, header) for part in _x_matrix)
+    return XMatrix(origin.decode(), destination.decode() or None, key.decode(), signature)
+
+
+def x_matrix_header(said: XMatrix) -> str:
+    """The text of an Authorization field by the scheme X-Matrix. Refused: NOT_UTF8, BAD_SIGNATURE."""
+    return _answer(_x_matrix_header, *_slices(said.origin, said.destination or "", said.key, said.signature)).decode()
+
+
+def reply(verdicts: typing.Mapping[str, typing.Optional[str]]) -> bytes:
+    """The body of the reply to a transaction, by the id of each event: None where it was taken, or the text of its error."""
+    text = json.dumps({event_id: error or "" for event_id, error in verdicts.items()}, ensure_ascii=False).encode()
+    return _text_answer(_reply, text)
+
+
+def allowed(event: Text, events: typing.Iterable[Text], state: typing.Iterable[str], authorised: bool = False) -> typing.Optional[Rule]:
+    """The authorization rule that rejects an event by a state of its room, and None where the room allows it.
+
+    `events` are the room's events, each behind those that it names, and `state` the ids of those that hold in the state. `authorised` tells
+    whether the signatures of other servers than the sender's have checked. Refused: NOT_JSON, NOT_CANONICAL, BAD_EVENTS, BAD_STATE, as the
+    event's test fails, NOT_SIGNED.
+    """
+    numbers = _answer(_allowed, *_slices(event, _array(events), _texts(state)), _truth(authorised))
+    return Rule(*numbers) if numbers else None
+
+
+def resolve(events: typing.Iterable[Text], states: typing.Iterable[typing.Iterable[str]], rejected: typing.Iterable[str] = ()) -> typing.List[str]:
+    """The ids of the events of the state that several states of a room resolve to, in the order of their types and state keys.
+
+    `events` are the room's events, each behind those that it names, `rejected` the ids of those that were rejected, and each state has the ids
+    of its events. Refused: NOT_JSON, NOT_CANONICAL, BAD_EVENTS, BAD_STATE.
+    """
+    states = json.dumps([list(state) for state in states])
+    return json.loads(_answer(_resolve, *_slices(_array(events), _texts(rejected), states)))
+
+
+def _slices(*texts):
+    """Each text and its length."""
+    slices = []
+    for text in texts:
+        text = _bytes(text)
+        slices += (text, _number(len(text)))
+    return slices
+
+
+def _array(values):
+    """The text of an array of the values of these JSON texts. Each is read first, so that none stands for two or for a half."""
+    return b"[%s]" % b",".join(map(canonical, values))
+
+
+def _texts(texts):
+    """The JSON text of an array of texts."""
+    return json.dumps(list(texts), ensure_ascii=False)

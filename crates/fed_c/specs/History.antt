@@ -1,0 +1,57 @@
+-- The events of a room as a JSON array gives them (Matrix, Server-Server API, "PDUs"), each behind those that it names.
+use Rattle.std.specs.Prelude.{ℕ, List, [], ◌∷◌, ◌++◌, Bool, true, not, ◌&&◌, is_none, map, bytes_eq, if◌then◌else◌, Result, Ok, Err}
+use Rattle.std.specs.List.{list_any}
+use Rattle.serde_json.specs.Data.{Data}
+use Rattle.serde_json.specs.Find.{as_str}
+use Rattle.fed_json.specs.JsonRef.{as_items}
+use Rattle.fed_keys.specs.Trusting.{trusting_checks}
+use Rattle.fed_redaction.specs.EventId.{event_id_of}
+use Rattle.fed_event.specs.Tests.{holds, first_fault_of}
+use Rattle.fed_event.specs.Signatures.{is_signed}
+use Rattle.fed_event.specs.Checked.{CheckedEvent, checked_of}
+use Rattle.fed_room_contract.specs.declared.graph.Stored.{Stored}
+use Rattle.fed_room_contract.specs.declared.verdict.Verdict.{Verdict}
+use Rattle.fed_room_contract.specs.declared.verdict.Verdict.TheVariants.{Accepted, Rejected}
+use Rattle.fed_room_contract.specs.Graph.{is_stored, is_ready}
+use Rattle.fed_room_contract.specs.Verdict.{no_rule}
+use Rattle.fed_c.specs.declared.status.Status.{Status}
+use Rattle.fed_c.specs.declared.status.Status.TheVariants.{BadEvents}
+use Rattle.fed_c.specs.Results.{and_then, or_refusal}
+
+-- it passes the tests, and its sender's server has a signature there: whose signatures check is the caller's to see
+unfoldable pub is_event : Data → Bool
+is_event value = is_none (first_fault_of value) && is_signed trusting_checks value
+
+unfoldable pub taken : Data → CheckedEvent
+taken value = checked_of trusting_checks value
+
+-- the id is one of these
+abbrev pub is_among : List Data → List ℕ → Bool
+is_among ids id = list_any (λ item. holds (bytes_eq id) (as_str item)) ids
+
+-- the id stands in this array
+abbrev pub is_listed : Data → List ℕ → Bool
+is_listed list id = holds (λ ids. is_among ids id) (as_items list)
+
+abbrev pub verdict_by : Data → List ℕ → Verdict
+verdict_by rejected id = if is_listed rejected id then Rejected no_rule else Accepted
+
+-- the event as it is stored, where the rejected ones are listed
+abbrev pub stored_as : Data → CheckedEvent → Stored
+stored_as rejected checked = record { event = checked; verdict = verdict_by rejected (event_id_of checked.event) }
+
+-- it is another one than those before it, and names only these
+unfoldable pub comes_next : List Stored → Data → Bool
+comes_next before event = not (is_stored before (event_id_of event)) && is_ready before event
+
+-- behind these, each is an event and comes next
+abbrev pub continues : Data → List Stored → List Data → Bool
+continues rejected before [] = true
+continues rejected before (value ∷ values) =
+    is_event value && (comes_next before (taken value).event && continues rejected (before ++ stored_as rejected (taken value) ∷ []) values)
+
+abbrev pub history_of : Data → List Data → Result (List Stored) Status
+history_of rejected values = if continues rejected [] values then Ok (map (λ value. stored_as rejected (taken value)) values) else Err BadEvents
+
+abbrev pub history_in : Data → Result Data Status → Result (List Stored) Status
+history_in rejected events = and_then events (λ value. and_then (or_refusal BadEvents (as_items value)) (history_of rejected))

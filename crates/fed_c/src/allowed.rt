@@ -1,0 +1,60 @@
+//! Whether a room allows an event.
+ghost use Rattle.std.specs.Prelude.{◌≡◌, ◌≢◌, Ok, Err, IfOk, IfErr};
+ghost use Rattle.fed_event.specs.Reading.{read_of};
+ghost use Rattle.fed_c.specs.Allowed.{allowed_answer, rule_numbers};
+ghost use Rattle.fed_c.specs.Events.{read_or_status};
+ghost use Rattle.fed_c.specs.Output.{Gives};
+ghost use Rattle.fed_c.specs.Values.{value_of};
+ghost use Rattle.fed_c.specs.declared.status.Status.TheVariants.{Memory};
+
+use crate::history::history;
+use crate::output::{Answer, give};
+use crate::signers::checked;
+use crate::states::state;
+use fed_json::{Json, NoMemory};
+use fed_room_contract::Rule;
+use std::alloc::Global;
+
+/// Whether a room allows an event (room version 10, "Authorization rules", but rule 2): no bytes where it does, else three, the numbers of
+/// the rule that rejects it, of the condition and of its branch, 0 where there is none.
+///
+/// `events` is an array of the room's events, each behind those that it names, and `state` one of the ids of those that hold before the
+/// event. That the servers of the senders have signed them is the caller's to see, and `authorised` tells whether the signature of the
+/// server of `join_authorised_via_users_server` has checked too.
+///
+/// Returns `NotJson` and `NotCanonical` where an array has no value; `BadEvents` and `BadState`; the fault of the first test that the event
+/// fails, as `wikzord_event_test` does; `NotSigned` where its sender's server has no signature there.
+#[unsafe(no_mangle)]
+pub extern "C" fn wikzord_allowed(
+    alloc: Global,
+    text: &[u8],
+    events: &[u8],
+    state: &[u8],
+    authorised: bool,
+    out: &mut [u8],
+    needed: &mut usize,
+) -> u32
+    ensures { Gives (allowed_answer (value_of events.now) (value_of state.now) (read_or_status (read_of text.now)) authorised) result
+        (record { before = out.old; after = out.new; told_before = needed.old; told = needed.new }) }
+{
+    give(allowed(alloc, text, events, state, authorised), out, needed)
+}
+
+fn allowed(alloc: Global, text: &[u8], events: &[u8], ids: &[u8], authorised: bool) -> Answer
+    ensures ok { IfOk result (λ bytes. allowed_answer (value_of events.now) (value_of ids.now) (read_or_status (read_of text.now)) authorised ≡ Ok bytes.items) }
+    ensures fault { IfErr result (λ status. status ≢ Memory → allowed_answer (value_of events.now) (value_of ids.now) (read_or_status (read_of text.now)) authorised ≡ Err status) }
+{
+    let graph = history(alloc, events, &Json::empty_array(alloc))?;
+    let state = state(alloc, ids, &graph)?;
+    let event = checked(alloc, text, authorised)?;
+    Ok(rule_numbers(alloc, fed_auth::allowed(&graph, &event, &state))?)
+}
+
+fn rule_numbers(alloc: Global, verdict: Result<(), Rule>) -> Result<Vec<u8>, NoMemory>
+    ensures { IfOk result (λ bytes. bytes.items ≡ rule_numbers verdict) }
+{
+    match verdict {
+        Ok(()) => Ok(Vec::new(alloc)),
+        Err(rule) => Vec::from_slice(alloc, &[rule.section, rule.condition, rule.branch]),
+    }
+}

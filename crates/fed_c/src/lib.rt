@@ -1,0 +1,40 @@
+//! The functions of this repository that a program in C can call, each over slices of bytes and numbers.
+//!
+//! Every function has one form: what it reads comes as slices, what it makes goes into a buffer of the caller's, how many bytes that takes
+//! goes where `needed` says, and what it returns is the number of a `Status`: `Done`, `Memory` where memory ran out, `BufferTooSmall` of a
+//! function that has a buffer, and those that its comment names. A list comes, and is given, as the JSON text of an array. Nothing is kept
+//! between calls.
+//!
+//! - `status`: `Status`, how a call ends, and its number
+//! - `output`: from an answer to the caller's buffer
+//! - `values`: from bytes to a JSON value
+//! - `texts`: texts made of a value: the canonical one, the redaction, the signed one, the event id and the content hash
+//! - `events`: the tests of an event
+//! - `requests`: the bytes that are signed for a request
+//! - `transactions`: the form of a transaction's body
+//! - `replies`: the body of the reply to a transaction
+//! - `selection`: the keys of the auth events that an event has
+//! - `x_matrix`: what the Authorization field of a request says
+//! - `x_matrix_text`: that field, written
+//! - `history`, `states`: the events of a room, and states of it, as arrays give them
+//! - `signers`: signatures that the caller has checked
+//! - `allowed`: whether a room allows an event
+//! - `resolution`: what several states of a room resolve to
+#![tactic(auto)]
+
+mod allowed;
+mod events;
+mod history;
+mod output;
+mod replies;
+mod requests;
+mod resolution;
+mod selection;
+mod signers;
+mod states;
+mod status;
+mod texts;
+mod transactions;
+mod values;
+mod x_matrix;
+mod x_matrix_text;

@@ -1,0 +1,59 @@
+//! What several states of a room resolve to.
+ghost use Rattle.std.specs.Prelude.{◌≡◌, ◌≢◌, Ok, Err, IfOk, IfErr};
+ghost use Rattle.fed_c.specs.Output.{Gives};
+ghost use Rattle.fed_c.specs.Resolution.{ids_value, resolved_answer};
+ghost use Rattle.fed_c.specs.Values.{value_of};
+ghost use Rattle.fed_c.specs.declared.status.Status.TheVariants.{Memory};
+
+use crate::history::history;
+use crate::output::{Answer, give};
+use crate::states::states;
+use crate::values::value;
+use fed_json::{Json, NoMemory, canonical};
+use fed_resolve::resolve;
+use fed_room_contract::State;
+use std::alloc::Global;
+
+/// The state that several states of a room resolve to (room version 2, "State resolution"): the canonical text of an array of the ids of its
+/// events, in the order of their types and, within a type, of their state keys.
+///
+/// `events` is an array of the room's events, each behind those that it names; `rejected` one of the ids of those that were rejected; and
+/// `states` an array of states, each an array of the ids of its events.
+///
+/// Returns `NotJson` and `NotCanonical` where an array has no value; `BadEvents` and `BadState`.
+#[unsafe(no_mangle)]
+pub extern "C" fn wikzord_resolve(
+    alloc: Global,
+    events: &[u8],
+    rejected: &[u8],
+    states: &[u8],
+    out: &mut [u8],
+    needed: &mut usize,
+) -> u32
+    ensures { Gives (resolved_answer (value_of events.now) (value_of rejected.now) (value_of states.now)) result
+        (record { before = out.old; after = out.new; told_before = needed.old; told = needed.new }) }
+{
+    give(resolved(alloc, events, rejected, states), out, needed)
+}
+
+fn resolved(alloc: Global, events: &[u8], rejected: &[u8], given: &[u8]) -> Answer
+    ensures ok { IfOk result (λ bytes. resolved_answer (value_of events.now) (value_of rejected.now) (value_of given.now) ≡ Ok bytes.items) }
+    ensures fault { IfErr result (λ status. status ≢ Memory → resolved_answer (value_of events.now) (value_of rejected.now) (value_of given.now) ≡ Err status) }
+{
+    let rejected = value(alloc, rejected)?;
+    let graph = history(alloc, events, &rejected)?;
+    let states = states(alloc, given, &graph)?;
+    let state = resolve(alloc, &graph, &states)?;
+    Ok(canonical(alloc, &ids_of(alloc, &state)?)?)
+}
+
+// The ids of the events that a state names.
+fn ids_of(alloc: Global, state: &State) -> Result<Json, NoMemory>
+    ensures { IfOk result (λ json. json ≡ ids_value state.now) }
+{
+    let mut ids = Json::empty_array(alloc);
+    for entry in &state.entries(alloc)? {
+        ids.push(Json::from(String::from_str(alloc, entry.id.as_str())?))?;
+    }
+    Ok(ids)
+}

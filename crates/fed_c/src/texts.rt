@@ -1,0 +1,164 @@
+//! Texts made of a JSON value: the canonical one, what redaction leaves of an event, what is signed of it, its id and its content hash.
+ghost use Rattle.std.specs.Prelude.{◌≡◌, ◌≢◌, Ok, Err, IfOk, IfErr, if◌then◌else◌};
+ghost use Rattle.fed_json.specs.CanonicalText.{canonical_text};
+ghost use Rattle.fed_redaction.specs.ContentHash.{content_hash_of};
+ghost use Rattle.fed_redaction.specs.EventId.{signed_text_of, event_id_of};
+ghost use Rattle.fed_c.specs.Output.{Gives, Returns};
+ghost use Rattle.fed_c.specs.Texts.{of_value, redaction_text, hash_status};
+ghost use Rattle.fed_c.specs.Values.{value_within, value_of};
+ghost use Rattle.fed_c.specs.declared.status.Status.TheVariants.{Memory};
+
+use crate::output::{Answer, give};
+use crate::status::Status;
+use crate::values::{shallow_value, value};
+use fed_redaction::{covered_text, redact};
+use std::alloc::Global;
+
+/// The canonical text of the value of a JSON text that nests at most `levels` deep (appendix "Canonical JSON").
+///
+/// Returns the first of `NotJson`, `NotCanonical` and `TooDeep` that is so.
+#[unsafe(no_mangle)]
+pub extern "C" fn wikzord_canonical(
+    alloc: Global,
+    text: &[u8],
+    levels: usize,
+    out: &mut [u8],
+    needed: &mut usize,
+) -> u32
+    ensures { Gives (of_value canonical_text (value_within levels text.now)) result
+        (record { before = out.old; after = out.new; told_before = needed.old; told = needed.new }) }
+{
+    give(canonical(alloc, text, levels), out, needed)
+}
+
+fn canonical(alloc: Global, text: &[u8], levels: usize) -> Answer
+    ensures ok { IfOk result (λ bytes. of_value canonical_text (value_within levels text.now) ≡ Ok bytes.items) }
+    ensures fault { IfErr result (λ status. status ≢ Memory → of_value canonical_text (value_within levels text.now) ≡ Err status) }
+{
+    let json = shallow_value(alloc, text, levels)?;
+    Ok(fed_json::canonical(alloc, &json)?)
+}
+
+/// The canonical text of what redaction leaves of an event (room version 10, "Redactions"). A value need not be an event to have one.
+///
+/// Returns `NotJson` or `NotCanonical` where the text has no value.
+#[unsafe(no_mangle)]
+pub extern "C" fn wikzord_redaction(
+    alloc: Global,
+    text: &[u8],
+    out: &mut [u8],
+    needed: &mut usize,
+) -> u32
+    ensures { Gives (of_value redaction_text (value_of text.now)) result
+        (record { before = out.old; after = out.new; told_before = needed.old; told = needed.new }) }
+{
+    give(redaction(alloc, text), out, needed)
+}
+
+fn redaction(alloc: Global, text: &[u8]) -> Answer
+    ensures ok { IfOk result (λ bytes. of_value redaction_text (value_of text.now) ≡ Ok bytes.items) }
+    ensures fault { IfErr result (λ status. status ≢ Memory → of_value redaction_text (value_of text.now) ≡ Err status) }
+{
+    let event = value(alloc, text)?;
+    let redaction = redact(alloc, &event)?;
+    Ok(fed_json::canonical(alloc, &redaction)?)
+}
+
+/// The bytes of an event that its servers sign (Server-Server API, "Signing Events"). A value need not be an event to have them.
+///
+/// Returns `NotJson` or `NotCanonical` where the text has no value.
+#[unsafe(no_mangle)]
+pub extern "C" fn wikzord_signed_text(
+    alloc: Global,
+    text: &[u8],
+    out: &mut [u8],
+    needed: &mut usize,
+) -> u32
+    ensures { Gives (of_value signed_text_of (value_of text.now)) result
+        (record { before = out.old; after = out.new; told_before = needed.old; told = needed.new }) }
+{
+    give(signed_text(alloc, text), out, needed)
+}
+
+fn signed_text(alloc: Global, text: &[u8]) -> Answer
+    ensures ok { IfOk result (λ bytes. of_value signed_text_of (value_of text.now) ≡ Ok bytes.items) }
+    ensures fault { IfErr result (λ status. status ≢ Memory → of_value signed_text_of (value_of text.now) ≡ Err status) }
+{
+    let event = value(alloc, text)?;
+    Ok(fed_redaction::signed_text(alloc, &event)?)
+}
+
+/// The id of an event (room version 4, "Event IDs"): 44 bytes. A value need not be an event to have one.
+///
+/// Returns `NotJson` or `NotCanonical` where the text has no value.
+#[unsafe(no_mangle)]
+pub extern "C" fn wikzord_event_id(
+    alloc: Global,
+    text: &[u8],
+    out: &mut [u8],
+    needed: &mut usize,
+) -> u32
+    ensures { Gives (of_value event_id_of (value_of text.now)) result
+        (record { before = out.old; after = out.new; told_before = needed.old; told = needed.new }) }
+{
+    give(event_id(alloc, text), out, needed)
+}
+
+fn event_id(alloc: Global, text: &[u8]) -> Answer
+    ensures ok { IfOk result (λ bytes. of_value event_id_of (value_of text.now) ≡ Ok bytes.items) }
+    ensures fault { IfErr result (λ status. status ≢ Memory → of_value event_id_of (value_of text.now) ≡ Err status) }
+{
+    let event = value(alloc, text)?;
+    let id = fed_redaction::event_id(alloc, &event)?;
+    Ok(id.into_string().into_bytes())
+}
+
+/// The content hash of an event (Server-Server API, "Calculating the content hash for an event"): 43 bytes of base64. A value need not be
+/// an event to have one.
+///
+/// Returns `NotJson` or `NotCanonical` where the text has no value.
+#[unsafe(no_mangle)]
+pub extern "C" fn wikzord_content_hash(
+    alloc: Global,
+    text: &[u8],
+    out: &mut [u8],
+    needed: &mut usize,
+) -> u32
+    ensures { Gives (of_value content_hash_of (value_of text.now)) result
+        (record { before = out.old; after = out.new; told_before = needed.old; told = needed.new }) }
+{
+    give(content_hash(alloc, text), out, needed)
+}
+
+fn content_hash(alloc: Global, text: &[u8]) -> Answer
+    ensures ok { IfOk result (λ bytes. of_value content_hash_of (value_of text.now) ≡ Ok bytes.items) }
+    ensures fault { IfErr result (λ status. status ≢ Memory → of_value content_hash_of (value_of text.now) ≡ Err status) }
+{
+    let event = value(alloc, text)?;
+    let hash = fed_redaction::content_hash(alloc, &event)?;
+    Ok(hash.into_bytes())
+}
+
+/// Whether the hash that an event gives at `hashes.sha256` is its content hash.
+///
+/// Returns `Done` where it is, and `HashDiffers` where it is another or there is none; `NotJson` or `NotCanonical` where the text has no
+/// value.
+#[unsafe(no_mangle)]
+pub extern "C" fn wikzord_hash_fits(alloc: Global, text: &[u8]) -> u32
+    ensures { Returns (hash_status (value_of text.now)) result }
+{
+    match hash_fits(alloc, text) {
+        Ok(true) => Status::Done.number(),
+        Ok(false) => Status::HashDiffers.number(),
+        Err(status) => status.number(),
+    }
+}
+
+fn hash_fits(alloc: Global, text: &[u8]) -> Result<bool, Status>
+    ensures ok { IfOk result (λ fits. hash_status (value_of text.now) ≡ (if fits then Status.Done else Status.HashDiffers)) }
+    ensures fault { IfErr result (λ status. status ≢ Memory → hash_status (value_of text.now) ≡ status) }
+{
+    let event = value(alloc, text)?;
+    let covered = covered_text(alloc, &event)?;
+    Ok(fed_redaction::hash_fits(&event, &covered))
+}

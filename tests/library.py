@@ -1,0 +1,502 @@
+#!/usr/bin/env python3
+"""Builds the library for other languages by c/build.sh, and calls it as C and as Python do.
+
+    tests/library.py [--built]
+
+With --built it takes what c/build.sh left. It compares every line of the vectors (crates/fed_vectors) that one of the library's calls
+answers; the answers of whole buffers, of ones a byte short and of empty ones; what a refused call leaves; texts with null bytes, and of
+16 MB; eight threads at once; the numbers of wikzord.h with those of wikzord.py; the C example, where valgrind is
+on the machine under it too; and each of its allocations refused in turn.
+
+Prints `N passed, M failed`, and ends with status 1 where one failed.
+"""
+import base64
+import concurrent.futures
+import ctypes
+import hashlib
+import json
+import os
+import pathlib
+import re
+import shutil
+import subprocess
+import sys
+import tempfile
+
+sys.dont_write_bytecode = True
+ROOT = pathlib.Path(__file__).resolve().parent.parent
+C = ROOT / "c"
+VECTORS = ROOT / "crates" / "fed_vectors"
+MIB = 1 << 20
+
+passed = failed = 0
+
+
+def check(name, got, wanted):
+    global passed, failed
+    if got == wanted:
+        passed += 1
+    else:
+        failed += 1
+        print(f"FAILED: {name}\n  got    {str(got)[:500]}\n  wanted {str(wanted)[:500]}")
+
+
+def text(value):
+    return json.dumps(value, sort_keys=True, separators=(",", ":"), ensure_ascii=False).encode()
+
+
+def without(event, *names):
+    return {name: value for name, value in event.items() if name not in names}
+
+
+def unpadded(alphabet, value):
+    return alphabet(hashlib.sha256(text(value)).digest()).decode().rstrip("=")
+
+
+def event_of(number, **fields):
+    """An event with a content of its own, with its id, by Python's own JSON and hashes."""
+    event = {
+        "auth_events": [], "content": {"n": number}, "depth": 1, "origin_server_ts": 1, "prev_events": [], "room_id": "!r:a.example",
+        "sender": "@u:a.example", "signatures": {"a.example": {"ed25519:1": "A" * 86}}, "type": "m.x", **fields,
+    }
+    event["hashes"] = {"sha256": unpadded(base64.b64encode, without(event, "hashes", "signatures", "unsigned"))}
+    redacted = without(event, "signatures", "unsigned") | {"content": {}}
+    return event, "$" + unpadded(base64.urlsafe_b64encode, redacted)
+
+
+# ---- the vectors
+
+
+def lines(name):
+    return [line for line in (VECTORS / name).read_text(encoding="utf-8").split("\n") if line and not line.startswith("#")]
+
+
+def given(call):
+    """The bytes of `value`, `text` or `hex`, of which a call has one."""
+    if "value" in call:
+        return text(call["value"])
+    return bytes.fromhex(call["hex"]) if "hex" in call else call["text"].encode()
+
+
+def answered(function):
+    """What a line of the vectors says of a call: `ok` with what it gives, or `error` with the words of what it refuses."""
+    try:
+        return {"ok": function()}
+    except wikzord.Refused as refused:
+        return {"error": WORDS.get(refused.status.name, str(refused))}
+
+
+def event_answer(call):
+    event = given(call)
+    fault = wikzord.event_fault(event)
+    if fault:
+        return {"error": fault.error}
+    return {"ok": {"hash_fits": wikzord.hash_fits(event), "id": wikzord.event_id(event)}}
+
+
+def transaction_answer(call, wanted):
+    """The fault of a body; where it has none, what the vectors say of its parts is not for this library."""
+    fault = wikzord.transaction_fault(given(call))
+    return {"error": fault.error} if fault else {"ok": wanted.get("ok")}
+
+
+def texts_answer(call, wanted):
+    value = text(call["value"])
+    covered = wanted["ok"]["covered"].encode()
+    same = wikzord.content_hash(value) == base64.b64encode(hashlib.sha256(covered).digest()).decode().rstrip("=")
+    return {"ok": {
+        "covered": wanted["ok"]["covered"] if same else None,
+        "signed": wikzord.signed_text(value).decode(),
+        "whole": wikzord.canonical(value).decode(),
+    }}
+
+
+def request_answer(call):
+    return answered(lambda: wikzord.request_text(call["method"], call["target"], call["origin"], call["destination"], given(call)).decode())
+
+
+def x_matrix_answer(call):
+    def said():
+        read = wikzord.x_matrix(given(call))
+        check("a header that is written is read again", wikzord.x_matrix(wikzord.x_matrix_header(read)), read)
+        parts = {"key": read.key, "origin": read.origin, "sig": read.signature.hex()}
+        return parts if read.destination is None else parts | {"destination": read.destination}
+
+    return answered(said)
+
+
+def reply_answer(call):
+    """Of an event that is named twice the first verdict counts."""
+    verdicts = {}
+    for event_id, *error in call["verdicts"]:
+        verdicts.setdefault(event_id, error[0] if error else None)
+    return answered(lambda: wikzord.reply(verdicts).decode())
+
+
+def selection_answer(call):
+    """The places of the events that the state of the line has at the keys of the selection, each once."""
+    state = {}
+    for place in call["state"]:
+        event = call["graph"][place]["event"]
+        state[event["type"], event["state_key"]] = place
+    event = text(call["event"])
+    keys = wikzord.auth_selection(event if wikzord.hash_fits(event) else wikzord.redaction(event))
+    return {"ok": list(dict.fromkeys(state[key] for key in keys if key in state))}
+
+
+def events_and_ids(call):
+    events = [text(row["event"]) for row in call["graph"]]
+    return events, [wikzord.event_id(event) for event in events]
+
+
+def allowed_answer(call):
+    """The keys of the lines trust every signature."""
+    events, ids = events_and_ids(call)
+    rule = wikzord.allowed(text(call["event"]), events, [ids[place] for place in call["state"]], authorised=True)
+    return {"error": str(rule)} if rule else {"ok": None}
+
+
+def resolution_answer(call, wanted):
+    """The places of what states resolve to; of the other operations the answer is not for this library."""
+    events, ids = events_and_ids(call)
+    rejected = [event_id for event_id, row in zip(ids, call["graph"]) if row["verdict"].startswith("rejected")]
+    answers = list(wanted["ok"])
+    for number, operation in enumerate(call["operations"]):
+        if list(operation) == ["resolve"]:
+            states = [[ids[place] for place in state] for state in operation["resolve"]]
+            answers[number] = [ids.index(event_id) for event_id in wikzord.resolve(events, states, rejected)]
+    return {"ok": answers}
+
+
+def signing_answer(call, wanted):
+    """What is said of a request that is signed, after it was written and read."""
+    if "error" in wanted:
+        return wanted
+    said = wanted["ok"]
+    header = wikzord.x_matrix_header(wikzord.XMatrix(said["origin"], said["destination"], said["key"], bytes.fromhex(said["sig"])))
+    return x_matrix_answer({"text": header})
+
+
+# Each call of the vectors that the library answers, by what is given and what is wanted.
+CALLS = {
+    "canonical": lambda call, wanted: answered(lambda: wikzord.canonical(given(call), call.get("levels", 127)).decode()),
+    "redact": lambda call, wanted: answered(lambda: json.loads(wikzord.redaction(given(call)))),
+    "signed_text": lambda call, wanted: answered(lambda: wikzord.signed_text(given(call)).decode()),
+    "event_id": lambda call, wanted: answered(lambda: wikzord.event_id(given(call))),
+    "content_hash": lambda call, wanted: answered(lambda: wikzord.content_hash(given(call))),
+    "texts": texts_answer,
+    "event": lambda call, wanted: event_answer(call),
+    "request_text": lambda call, wanted: request_answer(call),
+    "transaction": transaction_answer,
+    "x_matrix": lambda call, wanted: x_matrix_answer(call),
+    "reply": lambda call, wanted: reply_answer(call),
+    "selection": lambda call, wanted: selection_answer(call),
+    "allowed": lambda call, wanted: allowed_answer(call),
+    "resolution": resolution_answer,
+    "sign_request": signing_answer,
+}
+
+# The words of the vectors for what is refused, where they are not those of the status.
+WORDS = {"BAD_HEADER": "bad authorization header"}
+
+
+def try_vectors():
+    counts = dict.fromkeys(CALLS, 0)
+    for number, (line, answer) in enumerate(zip(lines("stdin"), lines("stdout"), strict=True), 1):
+        call, wanted = read(line), json.loads(answer)
+        # (a line that is no call is the program's own to refuse)
+        if not isinstance(call, dict) or call.get("call") not in CALLS or "wrong" in wanted:
+            continue
+        counts[call["call"]] += 1
+        try:
+            got = CALLS[call["call"]](call, wanted)
+        except Exception as e:
+            got = repr(e)
+        check(f"line {number} of the vectors, {call['call']}", got, wanted)
+    for name, count in counts.items():
+        check(f"the vectors have lines of {name}", count > 0, True)
+    print(f"lines of the vectors: {sum(counts.values())}")
+
+
+def read(line):
+    try:
+        return json.loads(line)
+    except ValueError:
+        return None
+
+
+# ---- buffers
+
+
+class Output:
+    """A buffer of the caller's with a margin of known bytes behind it, and where a call tells the length."""
+
+    MARGIN = 64
+
+    def __init__(self, size):
+        self.size = size
+        self.room = ctypes.create_string_buffer(b"\xa5" * (size + Output.MARGIN), size + Output.MARGIN)
+        self.needed = ctypes.c_size_t(12_345)
+
+    def give(self, function, *arguments):
+        return function(*arguments, ctypes.byref(self.room), ctypes.c_size_t(self.size), ctypes.byref(self.needed))
+
+    def is_kept(self):
+        return self.room.raw == b"\xa5" * len(self.room)
+
+    def holds(self, answer):
+        return self.room.raw == answer + b"\xa5" * (len(self.room) - len(answer))
+
+
+def slices(*parts):
+    return [it for part in parts for it in (part, ctypes.c_size_t(len(part)))]
+
+
+def small_room():
+    """A create event, the join of its creator, and their ids."""
+    create = event_of(0, type="m.room.create", state_key="", content={"creator": "@u:a.example", "room_version": "10"})[0]
+    create_id = wikzord.event_id(text(create))
+    join = event_of(
+        0, type="m.room.member", state_key="@u:a.example", content={"membership": "join"}, prev_events=[create_id], auth_events=[create_id])[0]
+    return create, join, create_id, wikzord.event_id(text(join))
+
+
+def room_functions():
+    """The calls on rooms, as `try_buffers` tries each."""
+    refused, no, yes = wikzord.Status, ctypes.c_bool(False), ctypes.c_bool(True)
+    create, join, create_id, join_id = small_room()
+    events, state = text([create, join]), text([create_id, join_id])
+    mine, other = text(event_of(1)[0]), text(event_of(1, sender="@v:a.example")[0])
+    unsigned = text(event_of(1, signatures={})[0])
+    wrong_events = [b"{}", b"[5]", b"[{}]", text([join]), text([create, create]), text([create | {"signatures": {}}])]
+    wrong_states = [b"{}", b"[5]", b'["$x"]', text([wikzord.event_id(other)])]
+    return [
+        ("allowed", wikzord._allowed, (*slices(mine, events, state), no), b"", [
+            *(((*slices(mine, wrong, state), no), refused.BAD_EVENTS) for wrong in wrong_events),
+            *(((*slices(mine, events, wrong), no), refused.BAD_STATE) for wrong in wrong_states),
+            ((*slices(mine, b"[", state), no), refused.NOT_JSON), ((*slices(mine, events, b"[1.5]"), no), refused.NOT_CANONICAL),
+            ((*slices(b"{}", events, state), no), refused.MISSING_FIELD), ((*slices(unsigned, events, state), no), refused.NOT_SIGNED)]),
+        ("allowed of an event of one who is not joined", wikzord._allowed, (*slices(other, events, state), yes), bytes([5, 0, 0]), []),
+        ("resolve", wikzord._resolve, slices(events, b"[]", b"[%s,%s]" % (state, state)), text([create_id, join_id]), [
+            *((slices(wrong, b"[]", b"[]"), refused.BAD_EVENTS) for wrong in wrong_events),
+            *((slices(events, b"[]", b"[%s]" % wrong), refused.BAD_STATE) for wrong in wrong_states),
+            (slices(events, b"[]", state), refused.BAD_STATE), (slices(events, b"", b"[]"), refused.NOT_JSON)]),
+        ("resolve of no states", wikzord._resolve, slices(b"[]", b"[]", b"[]"), b"[]", []),
+    ]
+
+
+def try_buffers():
+    event, event_id = event_of(1)
+    event = text(event)
+    bad = b'{"a":1.5}'
+    request = (b"PUT", b"/x", b"a", b"b", b"{}")
+    refused, levels = wikzord.Status, ctypes.c_size_t
+    functions = [
+        ("canonical", wikzord._canonical, (*slices(event), levels(127)), event, [((*slices(b"["), levels(127)), refused.NOT_JSON),
+            ((*slices(bad), levels(127)), refused.NOT_CANONICAL), ((*slices(b"[[1]]"), levels(1)), refused.TOO_DEEP)]),
+        ("redaction", wikzord._redaction, slices(event), text(json.loads(event) | {"content": {}}), [(slices(b""), refused.NOT_JSON),
+            (slices(bad), refused.NOT_CANONICAL)]),
+        ("signed_text", wikzord._signed_text, slices(event), text(without(json.loads(event), "signatures") | {"content": {}}),
+            [(slices(b"\xff"), refused.NOT_JSON), (slices(bad), refused.NOT_CANONICAL)]),
+        ("event_id", wikzord._event_id, slices(event), event_id.encode(), [(slices(b"{"), refused.NOT_JSON),
+            (slices(bad), refused.NOT_CANONICAL)]),
+        ("content_hash", wikzord._content_hash, slices(event), json.loads(event)["hashes"]["sha256"].encode(),
+            [(slices(b"nul"), refused.NOT_JSON), (slices(bad), refused.NOT_CANONICAL)]),
+        ("event_error", wikzord._event_error, slices(b"{}"), b"missing field: auth_events", []),
+        ("event_error of an event", wikzord._event_error, slices(event), b"", []),
+        ("transaction_error", wikzord._transaction_error, slices(b"[]"), b"bad field: body", []),
+        ("transaction_error of a transaction", wikzord._transaction_error, slices(b'{"origin":"a","origin_server_ts":1,"pdus":[]}'), b"", []),
+        ("request_text", wikzord._request_text, slices(*request),
+            b'{"content":{},"destination":"b","method":"PUT","origin":"a","uri":"/x"}',
+            [(slices(*request[:place], b"\xff", *request[place + 1:]), refused.NOT_UTF8) for place in range(4)]),
+        ("auth_selection", wikzord._auth_selection, slices(event),
+            b'[["m.room.create",""],["m.room.power_levels",""],["m.room.member","@u:a.example"]]',
+            [(slices(b"{}"), refused.MISSING_FIELD), (slices(b"5"), refused.WRONG_KIND), (slices(bad), refused.NOT_CANONICAL)]),
+        ("reply", wikzord._reply, slices(b'{"$b":"no","$a":""}'), b'{"pdus":{"$a":{},"$b":{"error":"no"}}}',
+            [(slices(b"[]"), refused.BAD_VERDICTS), (slices(b'{"$a":null}'), refused.BAD_VERDICTS), (slices(b"{"), refused.NOT_JSON)]),
+        ("reply to no event", wikzord._reply, slices(b"{}"), b'{"pdus":{}}', [(slices(b"1.5"), refused.NOT_CANONICAL)]),
+        *((f"x_matrix_{part}", function, slices(b'X-Matrix origin="a\\"",destination=b,key=k,sig="%s"' % (b"A" * 86)), answer,
+            [(slices(b"Bearer x"), refused.BAD_HEADER), (slices(b""), refused.BAD_HEADER), (slices(b"\xff"), refused.NOT_UTF8)])
+            for part, function, answer in zip(wikzord.XMatrix._fields, wikzord._x_matrix, (b'a"', b"b", b"k", bytes(64)))),
+        ("x_matrix_header", wikzord._x_matrix_header, slices(b'a"', b"b", b"k", bytes(64)),
+            b'X-Matrix origin="a\\"",destination="b",key="k",sig="%s"' % (b"A" * 86),
+            [(slices(b"\xff", b"b", b"k", b""), refused.NOT_UTF8), (slices(b"a", b"\xff", b"k", bytes(64)), refused.NOT_UTF8),
+            (slices(b"a", b"b", b"\xff", bytes(64)), refused.NOT_UTF8), *((slices(b"a", b"b", b"k", bytes(count)), refused.BAD_SIGNATURE)
+            for count in (0, 63, 65))]),
+        ("x_matrix_header without destination", wikzord._x_matrix_header, slices(b"a", b"", b"k", bytes(64)),
+            b'X-Matrix origin="a",key="k",sig="%s"' % (b"A" * 86), []),
+        *room_functions(),
+    ]
+    for name, function, arguments, answer, refusals in functions:
+        for size in {len(answer), len(answer) + 1, len(answer) + 40, MIB}:
+            out = Output(size)
+            status = out.give(function, *arguments)
+            check(f"{name} in {size} bytes", (status, out.needed.value, out.holds(answer)), (0, len(answer), True))
+        for size in {size for size in (len(answer) - 1, len(answer) // 2, 1, 0) if 0 <= size < len(answer)}:
+            out = Output(size)
+            status = out.give(function, *arguments)
+            check(f"{name} in {size} bytes", (status, out.needed.value, out.is_kept()), (1, len(answer), True))
+        for given, wanted in refusals:
+            for size in (0, MIB):
+                out = Output(size)
+                status = out.give(function, *given)
+                check(f"{name}: {wanted.name} in {size} bytes", (status, out.needed.value, out.is_kept()), (wanted, 12_345, True))
+
+
+def try_numbers():
+    """What a test of an event and of a transaction tells of the place, and what stays."""
+    event = event_of(1)[0]
+    status, field = wikzord.Status, wikzord.Field
+    for name, value, wanted in [
+        ("an event", event, None),
+        ("no object", [], (status.WRONG_KIND, field.EVENT, "wrong kind: event")),
+        ("no sender", without(event, "sender"), (status.MISSING_FIELD, field.SENDER, "missing field: sender")),
+        ("a sender of another kind", event | {"sender": "u"}, (status.WRONG_KIND, field.SENDER, "wrong kind: sender")),
+        ("a long type", event | {"type": "a" * 256}, (status.FIELD_TOO_LONG, field.TYPE, "field too long: type")),
+        ("21 prev events", event | {"prev_events": ["$a"] * 21}, (status.TOO_MANY_IDS, field.PREV_EVENTS, "too many: prev_events")),
+        ("65,537 bytes", event | {"x": "a" * (65_537 - len(text(event | {"x": ""})))}, (status.EVENT_TOO_LARGE, None, "event too large")),
+        ("65,536 bytes", event | {"x": "a" * (65_536 - len(text(event | {"x": ""})))}, None),
+        ("101 levels", event | {"x": json.loads("[" * 100 + "]" * 100)}, (status.TOO_DEEP, None, "event too deep")),
+    ]:
+        check(f"the test of {name}", wikzord.event_fault(text(value)), wanted)
+    check("the test of an event that is no JSON", wikzord.event_fault(b"{"), (status.NOT_JSON, None, "not json"))
+    part = wikzord.Part
+    body = {"origin": "a", "origin_server_ts": 1, "pdus": []}
+    for name, value, wanted in [
+        ("a transaction", body, None),
+        ("no object", 5, (status.BAD_BODY, part.BODY, "bad field: body")),
+        ("no origin", without(body, "origin"), (status.BAD_BODY, part.ORIGIN, "bad field: origin")),
+        ("a time that is a text", body | {"origin_server_ts": "1"}, (status.BAD_BODY, part.ORIGIN_SERVER_TS, "bad field: origin_server_ts")),
+        ("no events", without(body, "pdus"), (status.BAD_BODY, part.PDUS, "bad field: pdus")),
+        ("edus that are null", body | {"edus": None}, (status.BAD_BODY, part.EDUS, "bad field: edus")),
+        ("51 events", body | {"pdus": [{}] * 51}, (status.TOO_MANY_PDUS, None, "too many pdus")),
+        ("101 ephemeral data units", body | {"edus": [{}] * 101}, (status.TOO_MANY_EDUS, None, "too many edus")),
+    ]:
+        check(f"the form of {name}", wikzord.transaction_fault(text(value)), wanted)
+    check("another content has another hash", wikzord.hash_fits(text(event | {"content": {}})), False)
+    check("an event has its own hash", wikzord.hash_fits(text(event)), True)
+    check("no event without a value has one", answered(lambda: wikzord.hash_fits(b"")), {"error": "not json"})
+
+
+def try_rooms():
+    """Whose signatures count, and what is no event of an array."""
+    create, join, create_id, join_id = small_room()
+    events, state = [text(create), text(join)], [create_id, join_id]
+    named = event_of(
+        1, type="m.room.member", sender="@v:a.example", state_key="@v:a.example", prev_events=[join_id],
+        content={"membership": "join", "join_authorised_via_users_server": "@w:b.example"},
+        signatures={server: {"ed25519:1": "A" * 86} for server in ("a.example", "b.example")})[0]
+    rule = wikzord.Rule
+    check("a join that is authorised by a server whose signature has not checked", wikzord.allowed(text(named), events, state), rule(4, 2, 0))
+    check("the same where it has", wikzord.allowed(text(named), events, state, True), rule(4, 3, 7))
+    check("the text of a rule", [str(rule(4, 3, 7)), str(rule(4, 2, 0)), str(rule(5, 0, 0))], ["4.3.7", "4.2", "5"])
+    check("two events in one text are none", answered(lambda: wikzord.resolve([text(create) + b"," + text(join)], [])), {"error": "not json"})
+    check("a rejected event stays where all states agree", wikzord.resolve(events, [state, state], [join_id]), [create_id, join_id])
+
+
+# ---- null bytes, large texts, threads
+
+
+def try_null_bytes():
+    check("a null byte is no JSON", answered(lambda: wikzord.canonical(b"1\0")), {"error": "not json"})
+    check("a null byte in a text is no JSON", answered(lambda: wikzord.canonical(b'"\0"')), {"error": "not json"})
+    check("a null character", wikzord.canonical(b'"\\u0000"'), b'"\\u0000"')
+    check("a null byte in a target", wikzord.request_text("GET", b"/\0", "a", "b"),
+        b'{"destination":"b","method":"GET","origin":"a","uri":"/\\u0000"}')
+    check("a null byte in a body", wikzord.request_text("PUT", "/", "a", "b", b"\0"),
+        b'{"content":\0,"destination":"b","method":"PUT","origin":"a","uri":"/"}')
+
+
+def try_large():
+    large = b'"' + b"a" * (16 * MIB - 2) + b'"'
+    check("16 MB", wikzord.canonical(large) == large, True)
+    many = b"[" + b"1," * (8 * MIB - 1) + b"1]"
+    check("16 MB of small values", wikzord.canonical(many[:-1] + b" ]") == many, True)
+    body = b'{"edus":[],"origin":"a","origin_server_ts":1,"pdus":[],"x":"%s"}'
+    fill = 16 * MIB - len(body % b"")
+    check("a transaction of 16,777,216 bytes", wikzord.transaction_fault(body % (b"a" * fill)), None)
+    check("a transaction of one byte more", wikzord.transaction_fault(body % (b"a" * (fill + 1))),
+        (wikzord.Status.BODY_TOO_LARGE, None, "body too large"))
+
+
+def try_threads():
+    events = [event_of(number) for number in range(200)]
+
+    def ids(_):
+        return [wikzord.event_id(text(event)) for event, _ in events for _ in range(5)]
+
+    wanted = [event_id for _, event_id in events for _ in range(5)]
+    with concurrent.futures.ThreadPoolExecutor(8) as threads:
+        for number, got in enumerate(threads.map(ids, range(8)), 1):
+            check(f"thread {number}", got == wanted, True)
+
+
+# ---- the header, the module and the example
+
+
+def try_header():
+    header = (C / "wikzord.h").read_text()
+    for name, values in (("status", wikzord.Status), ("field", wikzord.Field), ("part", wikzord.Part)):
+        body = re.search(r"enum wikzord_%s \{(.*?)\};" % name, header, re.S)[1]
+        prefix = "WIKZORD_" if name == "status" else f"WIKZORD_{name.upper()}_"
+        found = {word.removeprefix(prefix): int(number) for word, number in re.findall(r"(WIKZORD_\w+) = (\d+)", body)}
+        check(f"the numbers of wikzord_{name}", {it.name: it.value for it in values}, found)
+    declared = set(re.findall(r"^uint32_t (wikzord_\w+)\(", header, re.M))
+    sources = "".join(path.read_text() for path in (ROOT / "crates" / "fed_c" / "src").glob("*.rt"))
+    exported = set(re.findall(r'pub extern "C" fn (wikzord_\w+)\(', sources))
+    check("the header declares what the crate exports", declared, exported)
+    symbols = subprocess.run(["nm", "-D", "--defined-only", C / "out" / "libwikzord.so"], capture_output=True, text=True, check=True).stdout
+    check("the shared library has these symbols alone", {line.split()[-1] for line in symbols.splitlines()}, exported)
+
+
+def try_example():
+    event, event_id = event_of(7)
+    example = [str(C / "out" / "example")]
+    valgrind = ["valgrind", "-q", "--error-exitcode=9", "--leak-check=full", "--show-leak-kinds=all", "--errors-for-leak-kinds=all"]
+    runs = [("the example", example)]
+    if shutil.which("valgrind"):
+        runs.append(("the example under valgrind", valgrind + example))
+    else:
+        print("no valgrind on this machine: the example was not run under it")
+    for name, command in runs:
+        for given, wanted in [
+            (text(event), (0, f"{event_id}\npasses\n")),
+            (text(without(event, "sender")), (0, wikzord.event_id(text(without(event, "sender"))) + "\nmissing field: sender\n")),
+            (b"{", (0, "no id: status 3\nnot json\n")),
+            (text(event | {"x": "a" * 70_000}), (0, f"{event_id}\nevent too large\n")),
+        ]:
+            done = subprocess.run(command, input=given, capture_output=True)
+            check(f"{name}: {given[:60]}", (done.returncode, done.stdout.decode(), done.stderr.decode()), (*wanted, ""))
+
+
+def try_refused_memory():
+    """Refuses each allocation of the example in turn."""
+    event, event_id = event_of(7)
+    usual, seen = (0, f"{event_id}\npasses\n", ""), []
+    with tempfile.TemporaryDirectory() as room:
+        shim = pathlib.Path(room) / "refuse.so"
+        subprocess.run(["cc", "-shared", "-fPIC", "-O1", "-o", shim, ROOT / "tests" / "memory" / "refuse.c", "-ldl"], check=True)
+        for at in range(1, 10_000):
+            log = pathlib.Path(room) / str(at)
+            refusing = {"LD_PRELOAD": str(shim), "REFUSE_AT": str(at), "REFUSE_LOG": str(log)}
+            done = subprocess.run([C / "out" / "example"], input=text(event), capture_output=True, env=os.environ | refusing)
+            seen.append((done.returncode, done.stdout.decode(), done.stderr.decode()))
+            if not log.exists():
+                break
+    check("the example where no memory is refused", seen[-1], usual)
+    no_id, no_error = (0, "no id: status 2\npasses\n", ""), (1, f"{event_id}\n", "out of memory\n")
+    check("the example where memory is refused", set(seen), {usual, (1, "", "no input\n"), no_id, no_error})
+    print(f"allocations refused in turn: {len(seen) - 1}, of which {seen.count(no_id) + seen.count(no_error)} in a call")
+
+
+if sys.argv[1:] != ["--built"]:
+    build = subprocess.run([C / "build.sh"], capture_output=True, text=True)
+    check("c/build.sh", (build.returncode, build.stdout, build.stderr), (0, "c/out: libwikzord.a libwikzord.so example\n", ""))
+if not failed:
+    sys.path.insert(0, str(C))
+    import wikzord
+
+    for part in (try_vectors, try_buffers, try_numbers, try_rooms, try_null_bytes, try_large, try_threads, try_header, try_example, try_refused_memory):
+        part()
+print(f"{passed} passed, {failed} failed")
+sys.exit(1 if failed else 0)
