@@ -7,13 +7,14 @@ use std::fs::File;
 use std::{fs, io};
 
 /// The scripts, `NAME.sim` each with its output `NAME.out`.
-const NAMES: [&str; 6] = [
+const NAMES: [&str; 7] = [
     "lost_answer",
     "late_request",
     "ban_against_topic",
     "closed_outbox",
     "leaving_and_joining",
     "calm_rounds",
+    "calm_after_losses",
 ];
 
 fn main(rt: HostRuntime) -> io::Result<()> {

@@ -98,6 +98,7 @@ fresh_lands o d epoch name other = record {
   edus = refl;
   newest = λ t e. absurd (not_none t e);
   range = λ n reply e. absurd (not_none reply (sym (nothing_kept name epoch n) ∙ e));
+  short = λ n reply e. absurd (not_none reply (sym (nothing_kept name epoch n) ∙ e));
   requests = λ k n bytes e. absurd (no_packets k _ e);
   answers = λ k n reply e. absurd (no_packets k _ e);
   replied = λ n body e. absurd (not_none body (sym (nothing_kept name epoch n) ∙ e));

@@ -44,6 +44,7 @@ use Rattle.fed_sim.proofs.WayQueues.{set_here}
 use Rattle.fed_sim.proofs.Servers.{listed}
 use Rattle.fed_sim.proofs.Stored.{Grown, no_room, given, grown_same, grown_then, grown_set, received_grows, committed_grows, committed_inside, IsInside, inside_later, made_is}
 use Rattle.fed_sim.proofs.Offers.{with_entry, offer_cases, OfferCases, as_it_was, event_entered, edu_cases, EduCases, edu_as_it_was, edu_entered, close_cases, CloseCases, close_as_it_was, close_entered}
+use Rattle.fed_sim.proofs.CalmSteps.{rounds_reach}
 
 -- ---- the journals are as they were
 
@@ -280,7 +281,7 @@ does_add (Settle packet) w told new is = adds_nothing w new (settled_keeps packe
 does_add (Apply server room) w told new is = adds_nothing w new (at_server server _ w told new (λ out before after does. given_keeps w.known (string_bytes room) out before after does) is)
 does_add (Tick ms) w told new is = adds_nothing w new (ticked_keeps w ms told new is)
 does_add (Show server origin) w told new is = adds_nothing w new (same_world_keeps w new is.1)
-does_add (Calm rounds) w told new is = adds_nothing w new (reached_keeps w new is.1)
+does_add (Calm rounds) w told new is = adds_nothing w new (reached_keeps w new (rounds_reach rounds w new is.1))
 
 left_keeps : (step : Step) (w new : WorldState) → Leaves step w new → Keeps w new
 left_keeps (Offer server draft) w new is = same_world_keeps w new is

@@ -4,7 +4,7 @@ use Rattle.std.proofs.Common.{◌≡◌, ◌≢◌, ℕ, zero, suc, ◌+◌, ◌
 use Rattle.std.specs.Prelude.{slice_get, filter}
 use Rattle.std.proofs.lemmas.Bool.{lt-ltb, cases_lt, cases_eq, le-ltb}
 use Rattle.std.proofs.lemmas.Fmt.{decimal_injective}
-use Rattle.std.proofs.lemmas.List.{append-nil, map-append}
+use Rattle.std.proofs.lemmas.List.{append-nil, map-append, length-map}
 use Rattle.std.specs.FinMap as finite
 use Rattle.serde_json.specs.Data.{Data}
 use Rattle.fed_keys.specs.StandIn.{stand_in_key, stand_in_signature, stand_in_checks}
@@ -23,6 +23,7 @@ use Rattle.fed_exchange.specs.Messages.{asked_of, bytes_sent, IsReadable}
 use Rattle.fed_sim.specs.Packets.{packet_at}
 use Rattle.fed_sim.specs.World.{PacketState, request, answer}
 use Rattle.fed_sim.proofs.Ids.{txn_id}
+use Rattle.fed_sim.proofs.ReplySizes.{reply_fits}
 
 -- ---- the parts
 
@@ -75,6 +76,8 @@ pub record Lands (o d epoch : ℕ) (name other : List ℕ) (sent : SentState) (l
   pub edus : log.edus ≡ map canonical_text (sent.settled_edus ++ landed_edus log epoch sent.unanswered)
   pub newest : (t : TransactionValue) → sent.unanswered ≡ Some t → (t.number ≡ sent.last) × IsTakable t
   pub range : (n : ℕ) (reply : List ℕ) → kept_for log epoch n ≡ Some reply → n ≤ sent.last
+  -- a reply that is kept fits into a message
+  pub short : (n : ℕ) (reply : List ℕ) → kept_for log epoch n ≡ Some reply → length reply ≤ 16777216
   pub requests : (k n : ℕ) (bytes : List ℕ) → packet_at packets k ≡ Some (request o d n bytes) → IsRequestOf name other epoch sent log n bytes
   pub answers : (k n : ℕ) (reply : Answer) → packet_at packets k ≡ Some (answer o d n reply) → IsAnswerOf (kept_for log epoch n) reply
   pub replied : (n : ℕ) (body : List ℕ) → kept_for log epoch n ≡ Some body → (k : ℕ) × (packet_at packets k ≡ Some (answer o d n (accepted body)))
@@ -135,6 +138,7 @@ module _ (o d epoch : ℕ) (name other : List ℕ) where
     edus = h.edus;
     newest = h.newest;
     range = h.range;
+    short = h.short;
     requests = λ k n bytes e. by_request k n bytes (last_or_before packets p k (request o d n bytes) e);
     answers = λ k n reply e. by_answer k n reply (last_or_before packets p k (answer o d n reply) e);
     replied = λ n body e. let there = h.replied n body e in (there.0, still_there packets p there.0 (answer o d n (accepted body)) there.1);
@@ -156,6 +160,7 @@ module _ (o d epoch : ℕ) (name other : List ℕ) where
     edus = h.edus;
     newest = h.newest;
     range = h.range;
+    short = h.short;
     requests = λ k n bytes e. by_request k n bytes (last_or_before packets (request o d m posted) k (request o d n bytes) e);
     answers = λ k n reply e. by_answer k n reply (last_or_before packets (request o d m posted) k (answer o d n reply) e);
     replied = λ n body e. let there = h.replied n body e in (there.0, still_there packets (request o d m posted) there.0 (answer o d n (accepted body)) there.1);
@@ -179,6 +184,7 @@ module _ (o d epoch : ℕ) (name other : List ℕ) where
     edus = h.edus;
     newest = h.newest;
     range = h.range;
+    short = h.short;
     requests = λ k n bytes e. by_request k n bytes (last_or_before packets (answer o d m given) k (request o d n bytes) e);
     answers = λ k n reply e. by_answer k n reply (last_or_before packets (answer o d m given) k (answer o d n reply) e);
     replied = λ n body e. let there = h.replied n body e in (there.0, still_there packets (answer o d m given) there.0 (answer o d n (accepted body)) there.1);
@@ -204,6 +210,7 @@ module _ (o d epoch : ℕ) (name other : List ℕ) where
     edus = h.edus ∙ ap (λ (r : Option (List ℕ)). map canonical_text (settled_edus ++ by_reply r t.edus)) (sym none);
     newest = λ u e. let same : t ≡ u = same_some t u e in (ap (λ (v : TransactionValue). v.number) (sym same) ∙ number, subst IsTakable same takable);
     range = λ n reply e. let below = h.range n reply e in omega (arith, below);
+    short = h.short;
     requests = λ k n bytes e. again n bytes (h.requests k n bytes e);
     answers = h.answers;
     replied = h.replied;
@@ -233,6 +240,7 @@ module _ (o d epoch : ℕ) (name other : List ℕ) where
     edus = h.edus ∙ ap (λ (r : Option (List ℕ)). map canonical_text (settled_edus ++ by_reply r t.edus)) kept ∙ ap (map canonical_text) (sym (append-nil (settled_edus ++ t.edus)));
     newest = λ u e. absurd (not_none u e);
     range = h.range;
+    short = h.short;
     requests = λ k n bytes e. again n bytes (h.requests k n bytes e);
     answers = h.answers;
     replied = h.replied;
@@ -318,6 +326,7 @@ module _ (o d epoch : ℕ) (name other : List ℕ) (sent : SentState) (log : Log
         ∙ sym (map-append canonical_text sent.settled_edus t.edus) ∙ ap (λ l. map canonical_text (sent.settled_edus ++ l)) (sym all_edus_landed);
     newest = h.newest;
     range = λ n reply e. in_range n reply e (here_or_not n);
+    short = λ n reply e. is_short n reply e (here_or_not n);
     requests = λ k n bytes e. by_request k n bytes (last_or_before packets given k (request o d n bytes) e);
     answers = λ k n reply e. by_answer k n reply (last_or_before packets given k (answer o d n reply) e);
     replied = λ n body e. where_is n body e (here_or_not n);
@@ -326,6 +335,13 @@ module _ (o d epoch : ℕ) (name other : List ℕ) (sent : SentState) (log : Log
       in_range : (n : ℕ) (reply : List ℕ) → kept_for log_then epoch n ≡ Some reply → (n ≡ t.number) ⊎ (n ≢ t.number) → n ≤ sent.last
       in_range n reply e (inl same) = let newest = (h.newest t unanswered).0 in omega (arith, same, newest)
       in_range n reply e (inr differs) = h.range n reply (sym (kept_before log epoch t.number n taking fits differs) ∙ e)
+
+      is_short : (n : ℕ) (reply : List ℕ) → kept_for log_then epoch n ≡ Some reply → (n ≡ t.number) ⊎ (n ≢ t.number) → length reply ≤ 16777216
+      is_short n reply e (inl same) =
+          let few : length (map event_of t.pdus) ≤ 50 = omega (arith, length-map t.pdus event_of, takable.limits.pdus) in
+          subst (λ (r : List ℕ). length r ≤ 16777216) (same_some taking.reply reply (sym (kept_now log epoch t.number taking fits) ∙ ap (kept_for log_then epoch) (sym same) ∙ e))
+          (reply_fits stand_in_checks rooms (received name t) few)
+      is_short n reply e (inr differs) = h.short n reply (sym (kept_before log epoch t.number n taking fits differs) ∙ e)
 
       alive_then : (n : ℕ) (u : TransactionValue) → ((reply : List ℕ) × (kept_for log epoch n ≡ Some reply)) ⊎ (sent.unanswered ≡ Some u)
           → ((reply : List ℕ) × (kept_for log_then epoch n ≡ Some reply)) ⊎ (sent.unanswered ≡ Some u)

@@ -15,6 +15,7 @@ pub mod Built
 pub mod Options
 pub mod Ids
 pub mod Comings
+pub mod ReplySizes
 pub mod Landing
 pub mod WayMoves
 pub mod Between
@@ -26,6 +27,11 @@ pub mod Beginning
 pub mod Delivered
 pub mod Runs
 pub mod Starting
+pub mod CalmSteps
+pub mod Dues
+pub mod Views
+pub mod CalmWays
+pub mod Delivering
 pub mod Stored
 pub mod Journals
 pub mod ScriptSpaces

@@ -7,7 +7,7 @@ use Rattle.fed_sim.specs.declared.step.Step.{Step}
 use Rattle.fed_sim.specs.declared.step.Step.TheVariants as step
 use Rattle.fed_sim.specs.Arriving.{IsArrivedInPart, IsGivenTo, unknown_room, known_room, IsGivenInPart}
 use Rattle.fed_sim.specs.Running.{ComesOfRun}
-use Rattle.fed_sim.specs.Steps.{Moves, given, Reached, no_step, one_more, in_it, Does, Makes, made, refused, next}
+use Rattle.fed_sim.specs.Steps.{Moves, given, Reached, no_step, one_more, before_it, in_it, Does, Makes, made, refused, next}
 use Rattle.fed_sim.specs.World.{WorldState, with_server, AtServer, nowhere, somewhere, AtServerInPart}
 use Rattle.fed_sim.specs.Server.{ServerState}
 use Rattle.fed_sim.proofs.Between.{set_same}
@@ -33,7 +33,7 @@ pub comes_same : (old new : WorldState) → new ≡ old → Comes old → Comes 
 comes_same old new same = subst Comes (sym same)
 
 pub comes_reached : (old new : WorldState) → Reached old new → Comes old → Comes new
-comes_reached old new reached = comes_by (step.Calm 0) old (outcome.Calm new.now) new (refl, reached)
+comes_reached old new reached comes = ∥∥₁_map comes (one_step_more (step.Calm 0) old outcome.NoMemory new (refused refl (before_it reached)))
 
 pub comes_moved : (old : WorldState) (told : Outcome) (new : WorldState) → Moves old told new → Comes old → Comes new
 comes_moved old told new moves = comes_reached old new (one_more old new told no_step moves)

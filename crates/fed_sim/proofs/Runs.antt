@@ -14,6 +14,7 @@ use Rattle.fed_sim.proofs.Between.{IsSound}
 use Rattle.fed_sim.proofs.Lasting.{offered, edu_offered, closed_for, arrived_so, arrived_in_part, given_to, on_its_way, ticked_so}
 use Rattle.fed_sim.proofs.Posting.{posted_lasts, settled_lasts}
 use Rattle.fed_sim.proofs.Taken.{taken_lasts}
+use Rattle.fed_sim.proofs.CalmSteps.{rounds_reach}
 
 module _ (laws : Laws) where
   at_server : (place : ℕ) (DoesIt : ServerState → Outcome → ServerState → Type 0) (w : WorldState) (told : Outcome) (new : WorldState)
@@ -83,7 +84,7 @@ module _ (laws : Laws) where
   done (Apply server room) w told new is h = at_server server _ w told new (λ out before after at does. given_to w server before at h (string_bytes room) out after does) is h
   done (Tick ms) w told new is h = ticked_so w ms told new is h
   done (Show server origin) w told new is h = subst IsSound (sym is.1) h
-  done (Calm rounds) w told new is h = reached_sound w new is.1 h
+  done (Calm rounds) w told new is h = reached_sound w new (rounds_reach rounds w new is.1) h
 
   given_in_part : (server : ℕ) (id : List ℕ) (w new : WorldState) → AtServerInPart server (IsGivenInPart w.known id) w new → IsSound w → IsSound new
   given_in_part server id w new is h = in_part server _ w new (λ before after at part. arrived_in_part w server before at h part.place after part.in_part) is

@@ -1,5 +1,5 @@
 -- Lines are read in one way, and no text is a script and none.
-use Rattle.std.proofs.Common.{arith, ◌≡◌, ◌==◌, ◌<◌, ◌+◌, ◌++◌, ◌∷◌, [], ◌⊎◌, inl, inr, ◌||◌, ◌&&◌, not, ℕ, zero, suc, List, Bool, true, false, true≢false, length, map, take, All, Option, Some, None, IsSome, Result, Ok, Err, Less, bytes_eq, String, Global, string_bytes, refl, sym, ap, subst, ◌∙◌, if◌then◌else◌, get_or, length-append}
+use Rattle.std.proofs.Common.{arith, ◌≡◌, ◌+◌, ◌++◌, ◌∷◌, [], ◌⊎◌, inl, inr, ◌||◌, ◌&&◌, not, ℕ, zero, suc, List, Bool, true, false, true≢false, length, map, take, All, Option, Some, None, IsSome, Result, Ok, Err, bytes_eq, String, Global, string_bytes, refl, sym, ap, subst, ◌∙◌, if◌then◌else◌, get_or, length-append}
 use Rattle.std.specs.List.{slice_get, list_any, list_all}
 use Rattle.std.specs.List.Sorted.{IsPermutation, IsSorted}
 use Rattle.std.specs.Ordering.{nat_cmp, is_lt, ordering_reverse}
@@ -13,7 +13,7 @@ use Rattle.std.proofs.lemmas.Option.{same_Some, none-some}
 use Rattle.fed_event.specs.Ids.{domain_of, is_user_id}
 use Rattle.fed_event.specs.Names.{is_one_of}
 use Rattle.fed_room.proofs.OneOrder.{sorted-one}
-use Rattle.fed_dest.specs.List.{place_of, list_fault}
+use Rattle.fed_dest.specs.List.{list_fault}
 use Rattle.fed_dest.specs.ListParts.{AreInOrder}
 use Rattle.fed_dest.specs.ServerName.{IsServerName}
 use Rattle.fed_sim.specs.declared.script.faults.ScriptError.{ScriptError}
@@ -24,9 +24,8 @@ use Rattle.fed_sim.specs.declared.setup_check.RoomFault.TheVariants as room_faul
 use Rattle.fed_sim.specs.declared.step.Step.{Step}
 use Rattle.fed_sim.specs.Script.{CommandText, servers, room, step, is_skipped, line_text, Said, IsRoom, Says, servers_first, then_rooms, then_steps, IsWrong, servers_again, no_names, no_list, room_before_servers, room_behind_step, no_room, step_before_servers, no_step, Takes, skipped, taken, HasFault, no_text, not_there, Reads, no_line, one_more, lines_of, IsScript, IsNoScript, at_line, nothing_said}
 use Rattle.fed_sim.specs.Script as script
-use Rattle.fed_sim.specs.ScriptFaults.{error_of_room}
-use Rattle.fed_sim.specs.ScriptSteps.{StepText, send, edu, apply, between, alone, IsStep, content_of, are_listed, step_fault}
-use Rattle.fed_sim.specs.Setup.{id_of, users_of, is_room_id, is_id_of_one, is_of_first, is_among, are_users, room_fault_of}
+use Rattle.fed_sim.specs.ScriptSteps.{StepText, send, edu, apply, between, alone, IsStep, step_fault}
+use Rattle.fed_sim.specs.Setup.{id_of, users_of, is_room_id, is_of_first, are_users, room_fault_of}
 
 -- ---- names have one order
 

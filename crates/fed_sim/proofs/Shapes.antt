@@ -1,5 +1,5 @@
 -- In a world that comes of a run each server has its own place, a way for each name and each room that is known.
-use Rattle.std.proofs.Common.{◌≡◌, ℕ, zero, suc, ◌+◌, ◌<◌, ◌≢◌, ◌⊎◌, inl, inr, nat_lt, Bool, true, false, if◌then◌else◌, List, [], ◌∷◌, length, map, set, Option, Some, None, refl, sym, ap, subst, ◌∙◌, arith}
+use Rattle.std.proofs.Common.{◌≡◌, ℕ, suc, ◌+◌, ◌≢◌, ◌⊎◌, inl, inr, nat_lt, Bool, true, false, if◌then◌else◌, List, [], ◌∷◌, length, Option, Some, None, refl, sym, ap, subst, ◌∙◌}
 use Rattle.std.specs.Prelude.{slice_get, string_bytes}
 use Rattle.std.specs.List.{range_with_len}
 use Rattle.std.specs.Option.{option_map_or}
@@ -9,7 +9,6 @@ use Rattle.std.proofs.Math.Logic.{∥∥₁_elim}
 use Rattle.std.proofs.Math.Nat.{ℕ_set}
 use Rattle.std.proofs.lemmas.List.{length-map, length-set}
 use Rattle.std.proofs.lemmas.List.FromFn.{length-range_with_len}
-use Rattle.std.proofs.lemmas.Option.{slice_get_within}
 use Rattle.fed_keys.specs.StandIn.{stand_in_checks}
 use Rattle.fed_inbox.specs.Rooms.{room_set}
 use Rattle.fed_journal.specs.declared.entry.Entry.{Entry}
@@ -31,12 +30,13 @@ use Rattle.fed_sim.specs.Running.{Begins, IsBeginning, ComesOfRun}
 use Rattle.fed_sim.specs.Server.{ServerState}
 use Rattle.fed_sim.specs.Shape.{IsShaped, HasShape}
 use Rattle.fed_sim.specs.Steps.{Moves, collected, cut, posted, taken, settled, given, risen, Reached, no_step, one_more, ReachedInPart, before_it, in_it, Does, Leaves, Makes, made, refused, Ran, begun, next}
-use Rattle.fed_sim.specs.Taking.{IsReceived, with_taken}
+use Rattle.fed_sim.specs.Taking.{IsReceived}
 use Rattle.fed_sim.specs.Way.{new_way}
 use Rattle.fed_sim.specs.Ways.{way_to, with_way, ways_beyond, IsOnWay}
 use Rattle.fed_sim.specs.World.{WorldState, with_server, at_moment, max_moment, ticked, AtServer, nowhere, somewhere, AtServerInPart}
 use Rattle.fed_sim.proofs.Between.{set_or_other}
 use Rattle.fed_sim.proofs.Fresh.{rooms_stay_known}
+use Rattle.fed_sim.proofs.CalmSteps.{rounds_reach}
 
 -- ---- one server
 
@@ -179,7 +179,7 @@ done (Settle packet) w told new is h = settled_shaped packet w told new is h
 done (Apply server room) w told new is h = at_server server _ w told new (given_keeps w.known (string_bytes room)) is h
 done (Tick ms) w told new is h = ticked_shaped ms w told new is h
 done (Show server origin) w told new is h = subst HasShape (sym is.1) h
-done (Calm rounds) w told new is h = reached_shaped w new is.1 h
+done (Calm rounds) w told new is h = reached_shaped w new (rounds_reach rounds w new is.1) h
 
 left : (step : Step) (w new : WorldState) → Leaves step w new → HasShape w → HasShape new
 left (Offer server draft) w new is h = subst HasShape (sym is) h

@@ -1,5 +1,5 @@
 -- Worlds as they change.
-use Rattle.std.proofs.Common.{arith, ◌≡◌, ℕ, ◌<◌, ◌↔◌, List, map, set, get_or, Option, Some, None, IsSome, Result, Ok, Err, IfOk, OnErr, Vec, vec_len, Global, refl, sym, ap, ◌∙◌, subst}
+use Rattle.std.proofs.Common.{arith, ◌≡◌, ℕ, ◌<◌, ◌↔◌, List, map, set, get_or, Option, Some, None, IsSome, Result, Ok, Err, IfOk, OnErr, Vec, vec_len, Global, sym, ap, ◌∙◌, subst}
 use Rattle.std.specs.List.{slice_get}
 use Rattle.std.specs.Option.{option_map}
 use Rattle.std.proofs.lemmas.List.{length-map, map-set}

@@ -16,10 +16,13 @@ pub mod WorldFields
 pub mod WorldParts
 pub mod Packets
 pub mod Showing
+pub mod Rounds
 pub mod Steps
 pub mod Running
 pub mod NewServer
 pub mod Headline
+pub mod Calm
+pub mod CalmSteps
 pub mod ScriptWords
 pub mod ScriptSteps
 pub mod ScriptTexts

@@ -7,6 +7,7 @@ use Rattle.fed_sim.specs.declared.step.Step.TheVariants.{Offer, OfferEdu, Close,
 use Rattle.fed_sim.specs.Arriving.{IsArrived, IsArrivedInPart, IsGivenTo, IsGivenInPart}
 use Rattle.fed_sim.specs.Offering.{IsOffered, IsEduOffered, IsClosedFor}
 use Rattle.fed_sim.specs.Packets.{IsPosted, IsTaken, IsSettled}
+use Rattle.fed_sim.specs.Rounds.{AreRounds}
 use Rattle.fed_sim.specs.Showing.{IsShown}
 use Rattle.fed_sim.specs.Ways.{IsOnWay, collecting, cutting, failing}
 use Rattle.fed_sim.specs.World.{WorldState, AtServer, AtServerInPart, dated, ticked}
@@ -45,7 +46,7 @@ Does (Settle packet) old = IsSettled packet old
 Does (Apply server room) old = AtServer server (IsGivenTo old.known (string_bytes room)) old
 Does (Tick ms) old = λ told new. (told, new) ≡ ticked ms old
 Does (Show server origin) old = λ told new. IsShown server origin old told × (new ≡ old)
-Does (Calm rounds) old = λ told new. (told ≡ outcome.Calm new.now) × Reached old new
+Does (Calm rounds) old = λ told new. (told ≡ outcome.Calm new.now) × AreRounds rounds old new
 
 -- What a step leaves where memory runs out: the world as it was, but where a room was given an event. Cutting, failing, waiting and showing take
 -- no memory.

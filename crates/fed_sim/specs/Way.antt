@@ -1,5 +1,5 @@
 -- The way of parcels from the journal of a server to one destination.
-use Rattle.std.specs.Prelude.{◌≡◌, ℕ, List, [], ◌++◌, ◌∷◌, refl, Option, Some, None, option_map, length, map, if◌then◌else◌}
+use Rattle.std.specs.Prelude.{ℕ, List, [], ◌++◌, ◌∷◌, refl, Option, Some, None, option_map, length, map, if◌then◌else◌}
 use Rattle.std.specs.Coded.{Coded, code_by, coded×, coded_ℕ, coded_list}
 use Rattle.fed_journal.specs.Parcel.{parcel_code}
 use Rattle.fed_journal.specs.declared.parcel.Load.{Load}

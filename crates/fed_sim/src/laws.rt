@@ -4,7 +4,9 @@ ghost use Rattle.fed_sim.specs.declared.outcome.Outcome.{Outcome};
 ghost use Rattle.fed_sim.specs.declared.script.faults.ScriptError.{ScriptError};
 ghost use Rattle.fed_sim.specs.declared.setup.Setup.{Setup};
 ghost use Rattle.fed_sim.specs.declared.step.Step.{Step};
+ghost use Rattle.fed_sim.specs.Calm.{CalmDelivers};
 ghost use Rattle.fed_sim.specs.Headline.{Headline};
+ghost use Rattle.fed_sim.specs.Rounds.{AreRounds};
 ghost use Rattle.fed_sim.specs.Running.{ComesOfRun, IsRun};
 ghost use Rattle.fed_sim.specs.Script.{IsScript, IsNoScript};
 ghost use Rattle.fed_sim.specs.Shape.{HoldsTogether};
@@ -18,6 +20,15 @@ use fed_outbox::nothing_is_lost_on_the_way;
 /// server, and its destinations are just the other listed servers that are joined in the state before it in that room's graph.
 pub fn runs_deliver()
     ensures { (setup : Setup) (steps : List Step) (replies : List Outcome) (w : WorldState) → IsRun setup steps replies w → Headline setup steps replies w }
+{
+    nothing_is_lost_on_the_way();
+}
+
+/// From each world that comes of a run, whose moment is an hour before the greatest at most: after as many calm rounds as a way takes, in which no
+/// memory was refused, all that is addressed there was taken and counts as delivered. A way takes a round for a transaction that is unanswered, and
+/// then one for each 50 events and each 100 ephemeral data units, which go together.
+pub fn calm_delivers()
+    ensures { (rounds : ℕ) (old new : WorldState) → ComesOfRun old → AreRounds rounds old new → CalmDelivers rounds old new }
 {
     nothing_is_lost_on_the_way();
 }

@@ -44,7 +44,7 @@ mod ways;
 mod world;
 
 pub use hosted::Hosted;
-pub use laws::{runs_deliver, scripts_are_told_apart, worlds_hold_together};
+pub use laws::{calm_delivers, runs_deliver, scripts_are_told_apart, worlds_hold_together};
 pub use outcome::{Collected, EduRefusal, Outcome, SendRefusal};
 pub use packet::Packet;
 pub use rounds::calm;

@@ -5,7 +5,8 @@ ghost use Rattle.fed_sim.specs.Arriving.{IsArrived, IsArrivedInPart, IsGivenTo, 
 ghost use Rattle.fed_sim.specs.Offering.{IsOffered, IsEduOffered, IsClosedFor};
 ghost use Rattle.fed_sim.specs.Packets.{IsPosted, IsTaken, IsSettled};
 ghost use Rattle.fed_sim.specs.Showing.{IsShown, count_of};
-ghost use Rattle.fed_sim.specs.Steps.{Reached, Does, Leaves, Makes};
+ghost use Rattle.fed_sim.specs.Rounds.{waited_until};
+ghost use Rattle.fed_sim.specs.Steps.{Does, Leaves, Makes};
 ghost use Rattle.fed_sim.specs.Ways.{IsOnWay, collecting, cutting, failing};
 ghost use Rattle.fed_sim.specs.World.{AtServer, AtServerInPart, dated, ticked};
 
@@ -22,7 +23,7 @@ use fed_room_contract::Draft;
 use std::alloc::Global;
 
 impl World {
-    ghost use Rattle.fed_sim.specs.WorldParts.{world_of};
+    ghost use Rattle.fed_sim.specs.WorldParts.{world_of, replies_of};
 
     /// Makes a step, and says where memory ran out in it.
     pub(crate) fn step(&mut self, alloc: Global, step: &Step) -> Outcome
@@ -111,6 +112,7 @@ impl World {
         dest: ServerIndex,
     ) -> Result<Outcome, NoMemory>
         ensures collected { IfOk result (λ told. AtServer server (IsOnWay dest collecting) (world_of self.old) told (world_of self.new)) }
+        ensures replies { replies_of self.new ≡ replies_of self.old }
         ensures err { OnErr result (world_of self.new ≡ world_of self.old) }
     {
         let Some(sender) = self.servers.get_mut(server.place()) else {
@@ -121,7 +123,8 @@ impl World {
 
     /// A server makes the next transaction for a destination.
     pub(crate) fn cut(&mut self, server: ServerIndex, dest: ServerIndex) -> Outcome
-        ensures { AtServer server (IsOnWay dest (cutting self.old.now)) (world_of self.old) result (world_of self.new) }
+        ensures cut { AtServer server (IsOnWay dest (cutting self.old.now)) (world_of self.old) result (world_of self.new) }
+        ensures replies { replies_of self.new ≡ replies_of self.old }
     {
         let Some(sender) = self.servers.get_mut(server.place()) else {
             return Outcome::NoSuchServer;
@@ -147,6 +150,7 @@ impl World {
         dest: ServerIndex,
     ) -> Result<Outcome, NoMemory>
         ensures posted { IfOk result (λ told. IsPosted server dest (world_of self.old) told (world_of self.new)) }
+        ensures replies { replies_of self.new ≡ replies_of self.old }
         ensures err { OnErr result (world_of self.new ≡ world_of self.old) }
     {
         let Some(sender) = self.server(server) else {
@@ -186,6 +190,7 @@ impl World {
     /// The request of a packet reaches its server, whose answer becomes a packet.
     pub(crate) fn take(&mut self, alloc: Global, packet: u64) -> Result<Outcome, NoMemory>
         ensures taken { IfOk result (λ told. IsTaken packet (world_of self.old) told (world_of self.new)) }
+        ensures replies { replies_of self.new ≡ replies_of self.old }
         ensures err { OnErr result (world_of self.new ≡ world_of self.old) }
     {
         if !self.has_packet(packet) {
@@ -226,6 +231,7 @@ impl World {
     /// The answer of a packet reaches the server that sent the request.
     pub(crate) fn settle(&mut self, alloc: Global, packet: u64) -> Result<Outcome, NoMemory>
         ensures settled { IfOk result (λ told. IsSettled packet (world_of self.old) told (world_of self.new)) }
+        ensures replies { replies_of self.new ≡ replies_of self.old }
         ensures err { OnErr result (world_of self.new ≡ world_of self.old) }
     {
         if !self.has_packet(packet) {
@@ -267,6 +273,7 @@ impl World {
         place: usize,
     ) -> Result<Outcome, NoMemory>
         ensures applied { IfOk result (λ told. AtServer server (IsArrived place) (world_of self.old) told (world_of self.new)) }
+        ensures replies { replies_of self.new ≡ replies_of self.old }
         ensures err { OnErr result (AtServerInPart server (IsArrivedInPart place) (world_of self.old) (world_of self.new)) }
     {
         let Some(receiver) = self.servers.get_mut(server.place()) else {
@@ -288,7 +295,8 @@ impl World {
 
     /// The moment rises to this one, where that is later and no greater than the greatest; whether it has been reached.
     pub(crate) fn wait_until(&mut self, at_ms: u64) -> bool
-        ensures { Reached (world_of self.old) (world_of self.new) }
+        ensures waited { (result, world_of self.new) ≡ waited_until at_ms (world_of self.old) }
+        ensures replies { replies_of self.new ≡ replies_of self.old }
     {
         if MAX_MOMENT < at_ms {
             return false;

@@ -3,6 +3,7 @@ ghost use Rattle.std.specs.Prelude.{◌≡◌, ℕ, true, false, Some, Err, IfOk
 ghost use Rattle.fed_sim.specs.declared.server.Server.{Server};
 ghost use Rattle.fed_sim.specs.declared.setup.RoomSetup.{RoomSetup};
 ghost use Rattle.fed_sim.specs.declared.setup.SimFault.TheVariants.{BadSetup};
+ghost use Rattle.fed_sim.specs.CalmSteps.{CalmStepsDeliver};
 ghost use Rattle.fed_sim.specs.Headline.{Headline};
 ghost use Rattle.fed_sim.specs.Hosted.{HostedState};
 ghost use Rattle.fed_sim.specs.Running.{Begins, IsBeginning, IsBegun, HasNoStart, CannotBegin};
@@ -11,7 +12,7 @@ ghost use Rattle.fed_sim.specs.Setup.{is_setup};
 ghost use Rattle.fed_sim.specs.WorldParts.{world_of};
 
 use crate::hosted::Hosted;
-use crate::laws::runs_deliver;
+use crate::laws::{calm_delivers, runs_deliver};
 use crate::server::{Server, keys_of};
 use crate::setup::{RoomSetup, Setup, SimFault};
 use crate::setup_check::{is_setup, list_of};
@@ -31,17 +32,21 @@ use std::alloc::Global;
 /// with 500, and nothing is taken. Each event of a journal is stored in a room of its server, and its destinations are just the other listed
 /// servers that are joined in the state before it in that room's graph (Matrix, Server-Server API, "Transactions", "PDUs").
 ///
+/// Each step of calm among them brings all that is addressed, as `calm` says.
+///
 /// # Errors
 ///
 /// `BadSetup` where no world begins with the setup, which is told without memory where its names make no list or one of its rooms has a
 /// fault; `Memory` where memory for its beginning ran out.
 pub fn run(alloc: Global, setup: &Setup, steps: &[Step]) -> Result<World, SimFault>
     ensures headline { IfOk result (λ world. Headline setup.now steps.now world.replies.items (world_of world)) }
+    ensures calm { OnOk result (CalmStepsDeliver setup.now) }
     ensures good { OnOk result (is_setup setup.now ≡ true) }
     ensures bad { is_setup setup.now ≡ false → result ≡ Err BadSetup }
     ensures bad_only { IfErr result (λ fault. fault ≡ BadSetup → CannotBegin setup.now) }
 {
     runs_deliver();
+    calm_delivers();
     let mut world = begin(alloc, setup)?;
     let mut replies = Vec::with_capacity(alloc, steps.len())?;
     for step in steps {

@@ -1,9 +1,10 @@
 // What others see of a world.
-ghost use Rattle.std.specs.Prelude.{◌≡◌, map, option_map, slice_get};
+ghost use Rattle.std.specs.Prelude.{◌≡◌, length, map, option_and_then, option_map, slice_get};
 ghost use Rattle.fed_sim.specs.Hosted.{rooms_of};
 ghost use Rattle.fed_sim.specs.Packets.{way_from};
+ghost use Rattle.fed_sim.specs.Rounds.{arrivals_at, due_at, queue_at};
 ghost use Rattle.fed_sim.specs.ServerParts.{server_of};
-ghost use Rattle.fed_sim.specs.WorldParts.{packet_of, world_of};
+ghost use Rattle.fed_sim.specs.WorldParts.{packet_of, replies_of, world_of};
 
 use crate::hosted::Hosted;
 use crate::outcome::Outcome;
@@ -27,7 +28,7 @@ impl World {
 
     /// What the steps answered, in their order.
     pub fn replies(&self) -> &[Outcome]
-        ensures { result.now ≡ self.entry.now.replies.items }
+        ensures { result.now ≡ replies_of self.entry.now }
     {
         self.replies.as_slice()
     }
@@ -75,7 +76,9 @@ impl World {
     }
 
     /// How many parcels of a server wait for a destination.
-    pub(crate) fn queued(&self, server: ServerIndex, dest: ServerIndex) -> usize {
+    pub(crate) fn queued(&self, server: ServerIndex, dest: ServerIndex) -> usize
+        ensures { result ≡ length (queue_at (world_of self.entry.now) server dest) }
+    {
         match self.way(server, dest) {
             Some(way) => way.queued(),
             None => 0,
@@ -83,16 +86,27 @@ impl World {
     }
 
     /// How many events wait at a server in front of the room at this place.
-    pub(crate) fn queued_at(&self, server: ServerIndex, place: usize) -> usize {
-        match self.rooms(server) {
-            Some(rooms) => rooms.get(place).map_or(0, |hosted| hosted.queued()),
+    pub(crate) fn queued_at(&self, server: ServerIndex, place: usize) -> usize
+        ensures { result ≡ length (arrivals_at (world_of self.entry.now) server place) }
+    {
+        match self.hosted(server, place) {
+            Some(hosted) => hosted.queued(),
             None => 0,
         }
     }
 
+    // The room of a server at this place.
+    fn hosted(&self, server: ServerIndex, place: usize) -> Option<&Hosted>
+        ensures { option_map (λ hosted. hosted.now.queue) result ≡ option_and_then (λ s. slice_get s.arrivals place) (slice_get (world_of self.entry.now).servers server) }
+    {
+        self.server(server)?.rooms.get(place)
+    }
+
     /// When the unanswered transaction of a server for a destination is due.
-    pub(crate) fn due_at(&self, server: ServerIndex, dest: ServerIndex) -> Option<u64> {
-        let outbox = self.outbox(server, dest)?;
+    pub(crate) fn due_at(&self, server: ServerIndex, dest: ServerIndex) -> Option<u64>
+        ensures { result ≡ due_at (world_of self.entry.now) server dest }
+    {
+        let outbox = self.way(server, dest)?.outbox();
         outbox.unanswered()?;
         Some(outbox.due_at())
     }
@@ -105,7 +119,9 @@ impl World {
     }
 
     // The way from a server to a destination.
-    fn way(&self, server: ServerIndex, dest: ServerIndex) -> Option<&Way> {
+    fn way(&self, server: ServerIndex, dest: ServerIndex) -> Option<&Way>
+        ensures { option_map (λ way. way.now.way) result ≡ way_from (world_of self.entry.now) server dest }
+    {
         self.server(server)?.way(dest)
     }
 }

@@ -1,19 +1,29 @@
-use Rattle.fed_sim.specs.Steps.{no_step}
+use Rattle.std.proofs.Common.{refl, ◌∙◌}
+use Rattle.fed_sim.specs.Rounds.{IsRound, never}
 use Rattle.fed_sim.proofs.Servers.{on_error}
-use Rattle.fed_sim.proofs.Reaching.{reached_then, in_part_then}
+use Rattle.fed_sim.proofs.CalmSteps.{rounds_reach, one_time, idle_rounds, all_rounds}
+use Rattle.fed_sim.proofs.Delivering.{delivers_of_some}
+use Rattle.fed_sim.proofs.Reaching.{in_part_then}
 use Rattle.fed_sim.proofs.rounds.calm.Goals as goal
 
 pub loop-init : goal.loop-init
-loop-init c = no_step
+loop-init c = (never, refl)
 
 pub returns-in_err-calm_round-clause-err : goal.returns-in_err-calm_round-clause-err
-returns-in_err-calm_round-clause-err c = on_error c.from_residual.result (in_part_then _ _ _ c.loop.invariant c.in_err-calm_round.ensures.err)
+returns-in_err-calm_round-clause-err c = on_error c.from_residual.result (in_part_then _ _ _ (rounds_reach _ _ _ c.loop.invariant.0) c.in_err-calm_round.ensures.err)
 
-pub returns-then-not-branch-clause-ok : goal.returns-then-not-branch-clause-ok
-returns-then-not-branch-clause-ok c = reached_then _ _ _ c.loop.invariant c.in_ok-calm_round.ensures.ok
+pub returns-then-not-branch-clause-rounds : goal.returns-then-not-branch-clause-rounds
+returns-then-not-branch-clause-rounds c =
+    idle_rounds c.args.rounds _ _ _ _ c.loop-test.true c.loop.invariant.0 c.in_ok-calm_round.ensures.round (c.in_ok-calm_round.ensures.idle c.if-not-branch.true)
 
 pub loop-preserved : goal.loop-preserved
-loop-preserved c = reached_then _ _ _ c.loop.invariant c.in_ok-calm_round.ensures.ok
+loop-preserved c = (one_time IsRound _ _ _ _ c.loop.invariant.0 c.in_ok-calm_round.ensures.round, c.in_ok-calm_round.ensures.replies ∙ c.loop.invariant.1)
 
-pub returns-clause-ok : goal.returns-clause-ok
-returns-clause-ok c = c.loop.invariant
+pub returns-then-not-branch-clause-delivered : goal.returns-then-not-branch-clause-delivered
+returns-then-not-branch-clause-delivered c =
+    delivers_of_some c.calm_delivers.ensures c.args.rounds _ _ c.args.world.now.comes
+    (idle_rounds c.args.rounds _ _ _ _ c.loop-test.true c.loop.invariant.0 c.in_ok-calm_round.ensures.round (c.in_ok-calm_round.ensures.idle c.if-not-branch.true))
+
+pub returns-clause-delivered : goal.returns-clause-delivered
+returns-clause-delivered c =
+    delivers_of_some c.calm_delivers.ensures c.args.rounds _ _ c.args.world.now.comes (all_rounds c.loop.counter c.args.rounds _ _ c.loop.auto.counter-end c.loop-test.false c.loop.invariant.0)

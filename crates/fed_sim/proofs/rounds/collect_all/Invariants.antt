@@ -1,7 +1,9 @@
-use Rattle.fed_sim.specs.Steps.{Reached}
-use Rattle.fed_sim.specs.WorldParts.{world_of}
+use Rattle.std.proofs.Common.{◌≡◌}
+use Rattle.fed_sim.specs.Rounds.{Times, CollectsOne}
+use Rattle.fed_sim.specs.WorldParts.{replies_of, world_of}
 use Rattle.fed_sim.proofs.rounds.collect_all.Given as goal
 
--- the steps so far
+-- what is done so far
 abbrev pub invariant-loop : goal.invariant-loop
-invariant-loop l = Reached (world_of l.fn.world) (world_of l.world)
+invariant-loop l =
+    Times (CollectsOne l.server l.dest) (world_of l.fn.world) l.counter (world_of l.world) × (replies_of l.world ≡ replies_of l.fn.world)

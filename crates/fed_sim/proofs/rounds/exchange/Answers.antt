@@ -1,48 +1,64 @@
-use Rattle.fed_sim.specs.Steps.{no_step, one_more, cut, posted, taken, settled}
+use Rattle.std.proofs.Common.{sym, ◌∙◌, subst}
+use Rattle.fed_sim.specs.declared.outcome.Outcome.{Outcome}
+use Rattle.fed_sim.specs.Packets.{IsPosted, IsTaken}
+use Rattle.fed_sim.specs.Rounds.{IsExchanged, nothing, left_alone, brought, risen_to}
+use Rattle.fed_sim.specs.Steps.{one_more, posted, taken}
+use Rattle.fed_sim.specs.WorldParts.{world_of}
 use Rattle.fed_sim.proofs.Servers.{on_error}
-use Rattle.fed_sim.proofs.Reaching.{reached_then, as_it_was}
+use Rattle.fed_sim.proofs.CalmSteps.{not_waited, waited, waited_reach, is_posted, is_answered}
+use Rattle.fed_sim.proofs.Reaching.{as_it_was}
+use Rattle.fed_sim.proofs.Views.{posted_by}
 use Rattle.fed_sim.proofs.rounds.exchange.Goals as goal
 
-pub returns-in_default-clause-ok : goal.returns-in_default-clause-ok
-returns-in_default-clause-ok c =
-    one_more _ _ c.cut.result no_step (cut c.args.server c.args.dest c.cut.ensures)
+pub returns-in_default-clause-exchanged : goal.returns-in_default-clause-exchanged
+returns-in_default-clause-exchanged c = nothing (sym c.due_at.ensures ∙ c.in_default.is)
 
-pub returns-then-not-wait_until-clause-ok : goal.returns-then-not-wait_until-clause-ok
-returns-then-not-wait_until-clause-ok c =
-    reached_then _ _ _ (one_more _ _ c.cut.result no_step (cut c.args.server c.args.dest c.cut.ensures)) c.wait_until.ensures
+pub returns-then-not-wait_until-clause-exchanged : goal.returns-then-not-wait_until-clause-exchanged
+returns-then-not-wait_until-clause-exchanged c =
+    let late = not_waited (world_of c.args.world.now) c.in-Some.due_at c.wait_until.result (world_of c.wait_until.new.self) c.wait_until.ensures.waited c.if-not-wait_until.true in
+    subst (IsExchanged c.args.server c.args.dest (world_of c.args.world.now)) (sym late.1) (left_alone c.in-Some.due_at (sym c.due_at.ensures ∙ c.in-Some.is) late.0)
 
 pub returns-in_err-packet-clause-err : goal.returns-in_err-packet-clause-err
 returns-in_err-packet-clause-err c =
-    let waited = reached_then _ _ _ (one_more _ _ c.cut.result no_step (cut c.args.server c.args.dest c.cut.ensures)) c.wait_until.ensures in
-    on_error c.from_residual.result (as_it_was _ _ _ waited c.in_err-packet.ensures.err)
+    on_error c.from_residual.result (as_it_was _ _ _ (waited_reach (world_of c.args.world.now) c.in-Some.due_at c.wait_until.result (world_of c.wait_until.new.self) c.wait_until.ensures.waited c.if-not-wait_until.false) c.in_err-packet.ensures.err)
 
 pub returns-in_default-2 : goal.returns-in_default-2
 returns-in_default-2 c =
-    let waited = reached_then _ _ _ (one_more _ _ c.cut.result no_step (cut c.args.server c.args.dest c.cut.ensures)) c.wait_until.ensures in
-    record { ok = one_more _ _ c.in_ok-packet.field-0 waited (posted c.args.server c.args.dest c.in_ok-packet.ensures.posted); err = tt }
+    let now = waited (world_of c.args.world.now) c.in-Some.due_at c.wait_until.result (world_of c.wait_until.new.self) c.wait_until.ensures.waited c.if-not-wait_until.false in
+    absurd (is_posted (world_of c.args.world.now) c.args.server c.args.dest c.in-Some.due_at c.in_ok-packet.field-0 (world_of c.post.new.self) (sym c.due_at.ensures ∙ c.in-Some.is)
+    (subst (λ w. IsPosted c.args.server c.args.dest w c.in_ok-packet.field-0 (world_of c.post.new.self)) now.1 c.in_ok-packet.ensures.posted) c.in_default-2.not-Posted)
 
 pub returns-in_err-packet-2-clause-err : goal.returns-in_err-packet-2-clause-err
 returns-in_err-packet-2-clause-err c =
-    let waited = reached_then _ _ _ (one_more _ _ c.cut.result no_step (cut c.args.server c.args.dest c.cut.ensures)) c.wait_until.ensures in
-    let sent = one_more _ _ c.in_ok-packet.field-0 waited (posted c.args.server c.args.dest c.in_ok-packet.ensures.posted) in
+    let now = waited_reach (world_of c.args.world.now) c.in-Some.due_at c.wait_until.result (world_of c.wait_until.new.self) c.wait_until.ensures.waited c.if-not-wait_until.false in
+    let sent = one_more _ _ c.in_ok-packet.field-0 now (posted c.args.server c.args.dest c.in_ok-packet.ensures.posted) in
     on_error c.from_residual-in_err-packet-2.result (as_it_was _ _ _ sent c.in_err-packet-2.ensures.err)
 
 pub returns-in_default-3 : goal.returns-in_default-3
 returns-in_default-3 c =
-    let waited = reached_then _ _ _ (one_more _ _ c.cut.result no_step (cut c.args.server c.args.dest c.cut.ensures)) c.wait_until.ensures in
-    let sent = one_more _ _ c.in_ok-packet.field-0 waited (posted c.args.server c.args.dest c.in_ok-packet.ensures.posted) in
-    record { ok = one_more _ _ c.in_ok-packet-2.field-0 sent (taken _ c.in_ok-packet-2.ensures.taken); err = tt }
+    let sent = posted_by c.args.server c.args.dest c.in-Posted.packet (world_of c.wait_until.new.self) c.in_ok-packet.field-0 (world_of c.post.new.self) c.in_ok-packet.ensures.posted c.in-Posted.is in
+    absurd (is_answered c.runs_deliver.ensures (world_of c.post.new.self) c.post.new.self.comes c.in-Posted.packet c.args.server c.args.dest sent.n sent.bytes sent.request_is c.in_ok-packet-2.field-0 (world_of c.take.new.self)
+    c.in_ok-packet-2.ensures.taken c.in_default-3.not-Answered)
 
 pub returns-in_err-settle-clause-err : goal.returns-in_err-settle-clause-err
 returns-in_err-settle-clause-err c =
-    let waited = reached_then _ _ _ (one_more _ _ c.cut.result no_step (cut c.args.server c.args.dest c.cut.ensures)) c.wait_until.ensures in
-    let sent = one_more _ _ c.in_ok-packet.field-0 waited (posted c.args.server c.args.dest c.in_ok-packet.ensures.posted) in
-    let reached = one_more _ _ c.in_ok-packet-2.field-0 sent (taken _ c.in_ok-packet-2.ensures.taken) in
-    on_error c.from_residual-in_err-settle.result (as_it_was _ _ _ reached c.in_err-settle.ensures.err)
+    let now = waited_reach (world_of c.args.world.now) c.in-Some.due_at c.wait_until.result (world_of c.wait_until.new.self) c.wait_until.ensures.waited c.if-not-wait_until.false in
+    let sent = one_more _ _ c.in_ok-packet.field-0 now (posted c.args.server c.args.dest c.in_ok-packet.ensures.posted) in
+    let arrived = one_more _ _ c.in_ok-packet-2.field-0 sent (taken _ c.in_ok-packet-2.ensures.taken) in
+    on_error c.from_residual-in_err-settle.result (as_it_was _ _ _ arrived c.in_err-settle.ensures.err)
 
-pub returns-clause-ok : goal.returns-clause-ok
-returns-clause-ok c =
-    let waited = reached_then _ _ _ (one_more _ _ c.cut.result no_step (cut c.args.server c.args.dest c.cut.ensures)) c.wait_until.ensures in
-    let sent = one_more _ _ c.in_ok-packet.field-0 waited (posted c.args.server c.args.dest c.in_ok-packet.ensures.posted) in
-    let reached = one_more _ _ c.in_ok-packet-2.field-0 sent (taken _ c.in_ok-packet-2.ensures.taken) in
-    one_more _ _ c.in_ok-settle.field-0 reached (settled _ c.in_ok-settle.ensures.settled)
+pub returns-clause-exchanged : goal.returns-clause-exchanged
+returns-clause-exchanged c =
+    let now = waited (world_of c.args.world.now) c.in-Some.due_at c.wait_until.result (world_of c.wait_until.new.self) c.wait_until.ensures.waited c.if-not-wait_until.false in
+    brought c.in-Some.due_at (world_of c.settle.new.self) (sym c.due_at.ensures ∙ c.in-Some.is) now.0 (record {
+      posted = world_of c.post.new.self;
+      request = c.in-Posted.packet;
+      is_posted = subst (λ (told : Outcome). IsPosted c.args.server c.args.dest (risen_to c.in-Some.due_at (world_of c.args.world.now)) told (world_of c.post.new.self)) c.in-Posted.is
+          (subst (λ w. IsPosted c.args.server c.args.dest w c.in_ok-packet.field-0 (world_of c.post.new.self)) now.1 c.in_ok-packet.ensures.posted);
+      answered = world_of c.take.new.self;
+      answer = c.in-Answered.packet;
+      status = c.in-Answered.status;
+      is_taken = subst (λ (told : Outcome). IsTaken c.in-Posted.packet (world_of c.post.new.self) told (world_of c.take.new.self)) c.in-Answered.is c.in_ok-packet-2.ensures.taken;
+      told = c.in_ok-settle.field-0;
+      is_settled = c.in_ok-settle.ensures.settled;
+    })

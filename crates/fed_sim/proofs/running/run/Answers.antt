@@ -48,3 +48,6 @@ pub returns-in_err-world-clause-bad_only : goal.returns-in_err-world-clause-bad_
 returns-in_err-world-clause-bad_only c =
     let p = err_from_is_err_and c.from_residual.result c.from_residual.ensures.1 in
     rw (p.1, p.2) c.in_err-world.ensures.bad_only
+
+pub returns-clause-calm : goal.returns-clause-calm
+returns-clause-calm c steps replies old is rounds told new does = c.calm_delivers.ensures rounds old new (record { setup = c.args.setup.now; steps = steps; replies = replies; ran = is }) does.1

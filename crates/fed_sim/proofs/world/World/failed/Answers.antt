@@ -1,7 +1,7 @@
 use Rattle.fed_sim.specs.declared.step.Step.TheVariants.{Failed}
 use Rattle.fed_sim.specs.WorldParts.{world_of}
 use Rattle.fed_sim.proofs.OfRuns.{comes_by}
-use Rattle.fed_sim.proofs.Worlds.{world_at, at_none, at_place}
+use Rattle.fed_sim.proofs.Worlds.{at_none, at_place}
 use Rattle.fed_sim.proofs.world.World.failed.Goals as goal
 
 pub returns-in_default : goal.returns-in_default

@@ -19,7 +19,7 @@ pub returns-in-Collect-clause-made : goal.returns-in-Collect-clause-made
 returns-in-Collect-clause-made c = subst (λ (s : Step). IfOk c.collect.result (λ told. Does s (world_of c.args.self.now) told (world_of c.collect.new.self))) (sym c.in-Collect.is) c.collect.ensures.collected
 
 pub returns-in-Cut-clause-made : goal.returns-in-Cut-clause-made
-returns-in-Cut-clause-made c = subst (λ (s : Step). Does s (world_of c.args.self.now) c.cut.result (world_of c.cut.new.self)) (sym c.in-Cut.is) c.cut.ensures
+returns-in-Cut-clause-made c = subst (λ (s : Step). Does s (world_of c.args.self.now) c.cut.result (world_of c.cut.new.self)) (sym c.in-Cut.is) c.cut.ensures.cut
 
 pub returns-in-Failed-clause-made : goal.returns-in-Failed-clause-made
 returns-in-Failed-clause-made c = subst (λ (s : Step). Does s (world_of c.args.self.now) c.failed.result (world_of c.failed.new.self)) (sym c.in-Failed.is) c.failed.ensures

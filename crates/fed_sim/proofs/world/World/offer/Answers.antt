@@ -1,4 +1,4 @@
-use Rattle.std.proofs.Common.{arith, ◌≡◌, length, map, string_bytes, sym, ap, ◌∙◌, subst}
+use Rattle.std.proofs.Common.{length, map, string_bytes, sym, ap, ◌∙◌, subst}
 use Rattle.std.proofs.lemmas.List.{length-map}
 use Rattle.std.proofs.lemmas.Result.{IfOk-weaker, on_err_weaker}
 use Rattle.fed_room_contract.specs.Draft.{DraftFields}

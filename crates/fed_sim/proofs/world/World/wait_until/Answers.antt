@@ -1,18 +1,8 @@
-use Rattle.fed_sim.specs.Steps.{no_step}
 use Rattle.fed_sim.specs.WorldParts.{world_of}
 use Rattle.fed_sim.proofs.OfRuns.{comes_reached}
 use Rattle.fed_sim.proofs.Reaching.{rises}
 use Rattle.fed_sim.proofs.world.World.wait_until.Goals as goal
 
-pub returns-then-at_ms-gt-MAX_MOMENT : goal.returns-then-at_ms-gt-MAX_MOMENT
-returns-then-at_ms-gt-MAX_MOMENT c = no_step
-
 pub invariant_of-self-clause-comes : goal.invariant_of-self-clause-comes
 invariant_of-self-clause-comes c =
     comes_reached (world_of c.args.self.now) _ (rises (world_of c.args.self.now) c.args.at_ms c.if-self-at_ms.true c.if-at_ms-gt-MAX_MOMENT.false) c.args.self.now.comes
-
-pub returns-then-self-at_ms : goal.returns-then-self-at_ms
-returns-then-self-at_ms c = rises (world_of c.args.self.now) c.args.at_ms c.if-self-at_ms.true c.if-at_ms-gt-MAX_MOMENT.false
-
-pub returns-else-self-at_ms : goal.returns-else-self-at_ms
-returns-else-self-at_ms c = no_step

@@ -1,7 +1,0 @@
-use Rattle.fed_sim.specs.Steps.{Reached}
-use Rattle.fed_sim.specs.WorldParts.{world_of}
-use Rattle.fed_sim.proofs.rounds.apply_all.Given as goal
-
--- the steps so far
-abbrev pub invariant-loop-place : goal.invariant-loop-place
-invariant-loop-place l = Reached (world_of l.fn.world) (world_of l.world)

@@ -1,0 +1,9 @@
+use Rattle.std.proofs.Common.{◌≡◌, false}
+use Rattle.fed_sim.specs.Rounds.{ForEach, GivesRooms}
+use Rattle.fed_sim.specs.WorldParts.{replies_of, world_of}
+use Rattle.fed_sim.proofs.rounds.give_all.Given as goal
+
+-- what is done so far
+abbrev pub invariant-loop-place : goal.invariant-loop-place
+invariant-loop-place l =
+    ForEach GivesRooms (world_of l.fn.world) l.place (world_of l.world) × (l.is_busy ≡ false → world_of l.world ≡ world_of l.fn.world) × (replies_of l.world ≡ replies_of l.fn.world)
