@@ -81,9 +81,13 @@ def show(name, one, other):
 events = pathlib.Path(file).read_bytes().splitlines()
 print(f"{len(events)} events, {sum(map(len, events))} bytes; least of {runs} runs")
 print(f"{'':<36} {'the library':>12} {'the other':>12} {'times':>7} {'ratio':>7}")
-for name, ours, theirs in (("canonical", wikzord.canonical, canonical), ("event_id", wikzord.event_id, event_id),
-                           ("content_hash", wikzord.content_hash, content_hash)):
-    show(f"Python, {name}", least(lambda: list(map(ours, events))), least(lambda: list(map(theirs, events))))
+for name, ours, of_many, theirs in (("canonical", wikzord.canonical, None, canonical),
+                                    ("event_id", wikzord.event_id, wikzord.event_ids, event_id),
+                                    ("content_hash", wikzord.content_hash, wikzord.content_hashes, content_hash)):
+    plain = least(lambda: list(map(theirs, events)))
+    show(f"Python, {name}", least(lambda: list(map(ours, events))), plain)
+    if of_many:
+        show(f"Python, {name}, of many by a call", least(lambda: of_many(events)), plain)
 if peer:
     for name in ("canonical", "eventid"):
         show(f"C, {name}, a run", least(lambda: printed([program, name, file])), least(lambda: printed([peer, name, file])))

@@ -16,7 +16,7 @@
  * `field` and `part` point to are the call's alone while it runs: they lie apart from each other and from what the call reads. A length is
  * below 2^63. The caller owns every buffer, before and after.
  *
- * Lists. A list comes as the JSON text of an array, and is given as one.
+ * Lists. A list comes as the JSON text of an array, and is given as one; wikzord_event_ids and wikzord_content_hashes have a form of their own.
  *
  * Memory. A function takes memory by malloc, and gives all of it back by free before it returns. Nothing is kept between calls, and there is
  * no state: calls may run in any number of threads at once. None may be made from a signal handler, or in the child of a fork of a process
@@ -57,7 +57,8 @@ enum wikzord_status {
     WIKZORD_BAD_SIGNATURE = 19,   /* a signature has not 64 bytes */
     WIKZORD_NOT_SIGNED = 20,      /* an event has no signature of its sender's server */
     WIKZORD_BAD_EVENTS = 21,      /* the value is no array of the events of a room, each behind those that it names */
-    WIKZORD_BAD_STATE = 22        /* the value is no array of the ids of state events of the room, or no array of such arrays */
+    WIKZORD_BAD_STATE = 22,       /* the value is no array of the ids of state events of the room, or no array of such arrays */
+    WIKZORD_BAD_SERVERS = 23      /* the value is no array of the names of servers */
 };
 
 /* A field of an event; WIKZORD_FIELD_EVENT stands for the event itself. */
@@ -122,6 +123,17 @@ uint32_t wikzord_event_id(const uint8_t *text, size_t text_len, uint8_t *out, si
  * WIKZORD_NOT_JSON, or WIKZORD_NOT_CANONICAL.
  */
 uint32_t wikzord_content_hash(const uint8_t *text, size_t text_len, uint8_t *out, size_t out_len, size_t *needed);
+
+/*
+ * The ids and the content hashes of several events, one behind another: 44 and 43 bytes each. The events stand one behind another in `texts`, and
+ * `lens` has the length of each, of which there are `count`. A length past the end of `texts` stands for what is left there.
+ *
+ * WIKZORD_NOT_JSON, or WIKZORD_NOT_CANONICAL, of the first event that has no answer; the calls for one event tell which it is.
+ */
+uint32_t wikzord_event_ids(const uint8_t *texts, size_t texts_len, const size_t *lens, size_t count, uint8_t *out, size_t out_len, size_t *needed);
+
+uint32_t wikzord_content_hashes(const uint8_t *texts, size_t texts_len, const size_t *lens, size_t count, uint8_t *out, size_t out_len,
+                                size_t *needed);
 
 /*
  * Whether the hash that an event gives at `hashes.sha256` is its content hash.
@@ -237,6 +249,17 @@ uint32_t wikzord_reply(const uint8_t *verdicts, size_t verdicts_len, uint8_t *ou
  */
 uint32_t wikzord_allowed(const uint8_t *text, size_t text_len, const uint8_t *events, size_t events_len, const uint8_t *state, size_t state_len,
                          bool authorised, uint8_t *out, size_t out_len, size_t *needed);
+
+/*
+ * The servers that an event goes to (Server-Server API, "PDUs"), by the state before it: the canonical text of an array of those of `servers`,
+ * in their order, that have a user who is joined, without `own`, which is the name of the own server. `servers` is an array of names. It takes
+ * time for each event of the state and each server.
+ *
+ * WIKZORD_BAD_SERVERS where it is none; then what is so of the events and the state.
+ */
+uint32_t wikzord_destinations(const uint8_t *events, size_t events_len, const uint8_t *state, size_t state_len,
+                              const uint8_t *servers, size_t servers_len, const uint8_t *own, size_t own_len,
+                              uint8_t *out, size_t out_len, size_t *needed);
 
 /*
  * The state that several states of a room resolve to (room version 2, "State resolution"): the canonical text of an array of the ids of its

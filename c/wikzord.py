@@ -39,6 +39,7 @@ class Status(enum.IntEnum):
     NOT_SIGNED = 20
     BAD_EVENTS = 21
     BAD_STATE = 22
+    BAD_SERVERS = 23
 
 
 class Field(enum.IntEnum):
@@ -117,8 +118,8 @@ Text = typing.Union[bytes, bytearray, memoryview, str]
 _HERE = pathlib.Path(__file__).resolve().parent
 _library = ctypes.CDLL(os.environ.get("WIKZORD_LIBRARY") or str(_HERE / "out" / "libwikzord.so"))
 
-# A function gets a text as bytes, and each other argument as a parameter of its C type. Most of these are made once, since ctypes takes about
-# as long to make them as a short call takes.
+# A function gets a text as bytes, lengths as an array, and each other argument as a parameter of its C type. Most of these are made once, since
+# ctypes takes about as long to make them as a short call takes.
 
 
 def _function(name):
@@ -132,6 +133,8 @@ _redaction = _function("redaction")
 _signed_text = _function("signed_text")
 _event_id = _function("event_id")
 _content_hash = _function("content_hash")
+_event_ids = _function("event_ids")
+_content_hashes = _function("content_hashes")
 _hash_fits = _function("hash_fits")
 _event_test = _function("event_test")
 _event_error = _function("event_error")
@@ -143,6 +146,7 @@ _reply = _function("reply")
 _transaction_test = _function("transaction_test")
 _transaction_error = _function("transaction_error")
 _allowed = _function("allowed")
+_destinations = _function("destinations")
 _resolve = _function("resolve")
 
 _number = ctypes.c_size_t.from_param
@@ -205,6 +209,18 @@ def _text_answer(function, text):
     return buffer[: needed.value]
 
 
+def _answers(function, texts, size):
+    """What calls make of texts, so many bytes of each, as texts."""
+    texts = [text if type(text) is bytes else _bytes(text) for text in texts]
+    answers = []
+    for start in range(0, len(texts), 128):
+        some = texts[start : start + 128]
+        whole, lengths = b"".join(some), (ctypes.c_size_t * len(some))(*map(len, some))
+        answer = _answer(function, whole, _number(len(whole)), lengths, _number(len(some))).decode()
+        answers += [answer[at : at + size] for at in range(0, len(answer), size)]
+    return answers
+
+
 def _long_answer(status, function, arguments, needed):
     """The bytes of a call that asks for a larger buffer; one that ends in another way is refused."""
     if status != Status.BUFFER_TOO_SMALL:
@@ -242,6 +258,16 @@ def event_id(event: Text) -> str:
 def content_hash(event: Text) -> str:
     """The content hash of an event. Refused: NOT_JSON, NOT_CANONICAL."""
     return _text_answer(_content_hash, event).decode()
+
+
+def event_ids(events: typing.Iterable[Text]) -> typing.List[str]:
+    """The ids of events, of many by each call. Refused: as `event_id` refuses the first that has none."""
+    return _answers(_event_ids, events, 44)
+
+
+def content_hashes(events: typing.Iterable[Text]) -> typing.List[str]:
+    """The content hashes of events, of many by each call. Refused: as `content_hash` refuses the first that has none."""
+    return _answers(_content_hashes, events, 43)
 
 
 def hash_fits(event: Text) -> bool:
@@ -316,6 +342,15 @@ def allowed(event: Text, events: typing.Iterable[Text], state: typing.Iterable[s
     """
     numbers = _answer(_allowed, *_slices(event, _array(events), _texts(state)), _truth(authorised))
     return Rule(*numbers) if numbers else None
+
+
+def destinations(events: typing.Iterable[Text], state: typing.Iterable[str], servers: typing.Iterable[str], own: str) -> typing.List[str]:
+    """Those of `servers` that an event goes to, in their order: they have a user who is joined in the state before it, and are not the own one.
+
+    `events` are the room's events, each behind those that it names, and `state` the ids of those that hold in the state. Refused: NOT_JSON,
+    NOT_CANONICAL, BAD_SERVERS, BAD_EVENTS, BAD_STATE.
+    """
+    return json.loads(_answer(_destinations, *_slices(_array(events), _texts(state), _texts(servers), own)))
 
 
 def resolve(events: typing.Iterable[Text], states: typing.Iterable[typing.Iterable[str]], rejected: typing.Iterable[str] = ()) -> typing.List[str]:

@@ -86,6 +86,14 @@ def answered(function):
         return {"error": WORDS.get(refused.status.name, str(refused))}
 
 
+def id_answer(call, of_one, of_many):
+    """What is made of one event, which the call on many makes of it too, beside another event."""
+    one = answered(lambda: of_one(given(call)))
+    several = answered(lambda: of_many([b"{}", given(call)]))
+    check("of many", several, {"ok": [of_one(b"{}"), one["ok"]]} if "ok" in one else one)
+    return one
+
+
 def event_answer(call):
     event = given(call)
     fault = wikzord.event_fault(event)
@@ -168,6 +176,19 @@ def resolution_answer(call, wanted):
     return {"ok": answers}
 
 
+def destinations_answer(call, wanted):
+    """The servers that an event goes to, and by the empty name of a server, which none has, those that are joined."""
+    if wanted.get("error") == "a server is listed twice":
+        return wanted
+    events, ids = events_and_ids(call)
+    state = [ids[place] for place in call["state"]]
+    servers = sorted(call["servers"])
+    return answered(lambda: {
+        "destinations": wikzord.destinations(events, state, servers, call["own"]),
+        "joined": wikzord.destinations(events, state, servers, ""),
+    })
+
+
 def signing_answer(call, wanted):
     """What is said of a request that is signed, after it was written and read."""
     if "error" in wanted:
@@ -182,8 +203,8 @@ CALLS = {
     "canonical": lambda call, wanted: answered(lambda: wikzord.canonical(given(call), call.get("levels", 127)).decode()),
     "redact": lambda call, wanted: answered(lambda: json.loads(wikzord.redaction(given(call)))),
     "signed_text": lambda call, wanted: answered(lambda: wikzord.signed_text(given(call)).decode()),
-    "event_id": lambda call, wanted: answered(lambda: wikzord.event_id(given(call))),
-    "content_hash": lambda call, wanted: answered(lambda: wikzord.content_hash(given(call))),
+    "event_id": lambda call, wanted: id_answer(call, wikzord.event_id, wikzord.event_ids),
+    "content_hash": lambda call, wanted: id_answer(call, wikzord.content_hash, wikzord.content_hashes),
     "texts": texts_answer,
     "event": lambda call, wanted: event_answer(call),
     "request_text": lambda call, wanted: request_answer(call),
@@ -192,6 +213,7 @@ CALLS = {
     "reply": lambda call, wanted: reply_answer(call),
     "selection": lambda call, wanted: selection_answer(call),
     "allowed": lambda call, wanted: allowed_answer(call),
+    "destinations": destinations_answer,
     "resolution": resolution_answer,
     "sign_request": signing_answer,
 }
@@ -252,6 +274,12 @@ def slices(*parts):
     return [it for part in parts for it in (part, ctypes.c_size_t(len(part)))]
 
 
+def several(texts, lengths=None):
+    """Texts one behind another, and the length of each."""
+    lengths = list(map(len, texts)) if lengths is None else lengths
+    return [*slices(b"".join(texts)), (ctypes.c_size_t * len(lengths))(*lengths), ctypes.c_size_t(len(lengths))]
+
+
 def small_room():
     """A create event, the join of its creator, and their ids."""
     create = event_of(0, type="m.room.create", state_key="", content={"creator": "@u:a.example", "room_version": "10"})[0]
@@ -277,6 +305,12 @@ def room_functions():
             ((*slices(mine, b"[", state), no), refused.NOT_JSON), ((*slices(mine, events, b"[1.5]"), no), refused.NOT_CANONICAL),
             ((*slices(b"{}", events, state), no), refused.MISSING_FIELD), ((*slices(unsigned, events, state), no), refused.NOT_SIGNED)]),
         ("allowed of an event of one who is not joined", wikzord._allowed, (*slices(other, events, state), yes), bytes([5, 0, 0]), []),
+        ("destinations", wikzord._destinations, slices(events, state, b'["b","a.example","a.example"]', b"b"), b'["a.example","a.example"]', [
+            *((slices(wrong, state, b"[]", b"a"), refused.BAD_EVENTS) for wrong in wrong_events),
+            *((slices(events, wrong, b"[]", b"a"), refused.BAD_STATE) for wrong in wrong_states),
+            *((slices(b"{}", b"{}", wrong, b"a"), refused.BAD_SERVERS) for wrong in (b"{}", b"[5]", b'["a b"]', b'["a",["a"]]', b'[""]')),
+            (slices(events, state, b"[", b"a"), refused.NOT_JSON), (slices(events, state, b"[1.5]", b"a"), refused.NOT_CANONICAL)]),
+        ("destinations without the own server", wikzord._destinations, slices(events, state, b'["a.example"]', b"a.example"), b"[]", []),
         ("resolve", wikzord._resolve, slices(events, b"[]", b"[%s,%s]" % (state, state)), text([create_id, join_id]), [
             *((slices(wrong, b"[]", b"[]"), refused.BAD_EVENTS) for wrong in wrong_events),
             *((slices(events, b"[]", b"[%s]" % wrong), refused.BAD_STATE) for wrong in wrong_states),
@@ -302,6 +336,13 @@ def try_buffers():
             (slices(bad), refused.NOT_CANONICAL)]),
         ("content_hash", wikzord._content_hash, slices(event), json.loads(event)["hashes"]["sha256"].encode(),
             [(slices(b"nul"), refused.NOT_JSON), (slices(bad), refused.NOT_CANONICAL)]),
+        ("event_ids", wikzord._event_ids, several([event, b"{}", event]), (event_id + wikzord.event_id(b"{}") + event_id).encode(), [
+            (several([event, b"{"]), refused.NOT_JSON), (several([b"5", bad, b""]), refused.NOT_CANONICAL), (several([b""]), refused.NOT_JSON)]),
+        ("event_ids of none", wikzord._event_ids, several([]), b"", []),
+        ("event_ids where a length is past the end", wikzord._event_ids, several([event], [2**63]), event_id.encode(), [
+            (several([event], [2**63, 1]), refused.NOT_JSON), (several([event], [len(event) - 1]), refused.NOT_JSON)]),
+        ("content_hashes", wikzord._content_hashes, several([event, event]), json.loads(event)["hashes"]["sha256"].encode() * 2,
+            [(several([event, bad]), refused.NOT_CANONICAL)]),
         ("event_error", wikzord._event_error, slices(b"{}"), b"missing field: auth_events", []),
         ("event_error of an event", wikzord._event_error, slices(event), b"", []),
         ("transaction_error", wikzord._transaction_error, slices(b"[]"), b"bad field: body", []),
@@ -419,6 +460,13 @@ def try_large():
         (wikzord.Status.BODY_TOO_LARGE, None, "body too large"))
 
 
+def try_many():
+    events = [event_of(number) for number in range(1_000)]
+    check("1,000 ids", wikzord.event_ids(text(event) for event, _ in events), [event_id for _, event_id in events])
+    check("1,000 content hashes", wikzord.content_hashes([text(event) for event, _ in events]), [event["hashes"]["sha256"] for event, _ in events])
+    check("no ids", wikzord.event_ids([]), [])
+
+
 def try_threads():
     events = [event_of(number) for number in range(200)]
 
@@ -496,7 +544,7 @@ if not failed:
     sys.path.insert(0, str(C))
     import wikzord
 
-    for part in (try_vectors, try_buffers, try_numbers, try_rooms, try_null_bytes, try_large, try_threads, try_header, try_example, try_refused_memory):
+    for part in (try_vectors, try_buffers, try_numbers, try_rooms, try_null_bytes, try_large, try_many, try_threads, try_header, try_example, try_refused_memory):
         part()
 print(f"{passed} passed, {failed} failed")
 sys.exit(1 if failed else 0)

@@ -1,5 +1,5 @@
 -- What a call on an Authorization field answers, by what the reading of its text says.
-use Rattle.std.proofs.Common.{◌≡◌, ◌≢◌, ℕ, List, [], true, false, Option, Some, None, option_map, unwrap_or, Bor, Result, Ok, Err, IfOk, IfErr, IsErrAnd, IsUtf8, refl, sym, ap, subst, ◌∙◌}
+use Rattle.std.proofs.Common.{◌≡◌, ◌≢◌, ℕ, List, [], false, Option, Some, None, option_map, unwrap_or, Bor, Result, Ok, Err, IfOk, IfErr, IsErrAnd, IsUtf8, refl, sym, ap, subst, ◌∙◌}
 use Rattle.std.proofs.lemmas.Str.{is_utf8-from_IsUtf8}
 use Rattle.std.specs.Str.{is_utf8}
 use Rattle.fed_http.specs.XMatrix.{XMatrixValue, IsXMatrix}

@@ -6,3 +6,5 @@ pub mod Histories
 pub mod StatesMade
 pub mod Rooms
 pub mod WrittenHeaders
+pub mod Servers
+pub mod OneAfterAnother

@@ -1,5 +1,5 @@
 -- Answers that are made of the events of a room, a state of it and more: each in turn, and the first refusal.
-use Rattle.std.proofs.Common.{◌≡◌, ℕ, List, map, Bool, Result, Ok, Err, refl, sym, ap, ◌∙◌}
+use Rattle.std.proofs.Common.{◌≡◌, ℕ, List, map, Bool, Result, Ok, Err, sym, ap, ◌∙◌}
 use Rattle.std.specs.FinMap as finite
 use Rattle.serde_json.specs.Data.{Data, string, array, no_items}
 use Rattle.fed_json.specs.CanonicalText.{canonical_text}

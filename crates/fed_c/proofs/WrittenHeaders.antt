@@ -1,5 +1,5 @@
 -- What the parts of an Authorization field say, by the tests of each.
-use Rattle.std.proofs.Common.{◌≡◌, ◌==◌, List, ℕ, Bool, true, false, length, if◌then◌else◌, Result, Ok, Err, IsErrAnd, refl, ap, sym, ◌∙◌}
+use Rattle.std.proofs.Common.{◌≡◌, ◌==◌, List, ℕ, Bool, true, false, length, if◌then◌else◌, Result, Ok, Err, IsErrAnd, refl, ap, ◌∙◌}
 use Rattle.std.specs.Str.{is_utf8}
 use Rattle.fed_http.specs.XMatrix.{XMatrixValue}
 use Rattle.fed_c.specs.declared.status.Status.{Status}

@@ -20,3 +20,7 @@ pub mod StateParts
 pub mod Signers
 pub mod Allowed
 pub mod Resolution
+pub mod Destinations
+pub mod DestinationsParts
+pub mod Several
+pub mod SeveralParts

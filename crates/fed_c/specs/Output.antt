@@ -1,5 +1,5 @@
 -- What a call leaves in the caller's buffer, where it tells the length of its answer, and what it returns.
-use Rattle.std.specs.Prelude.{◌≡◌, ◌≢◌, ◌<◌, ◌≤◌, ℕ, List, ◌++◌, drop, length, nat_le, if◌then◌else◌, Result, Ok, Err}
+use Rattle.std.specs.Prelude.{◌≡◌, ◌≢◌, ℕ, List, ◌++◌, drop, length, nat_le, if◌then◌else◌, Result, Ok, Err}
 use Rattle.fed_c.specs.declared.status.Status.{Status}
 use Rattle.fed_c.specs.declared.status.Status.TheVariants.{Done, BufferTooSmall, Memory}
 use Rattle.fed_c.specs.Status.{number_of}

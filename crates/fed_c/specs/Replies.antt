@@ -1,5 +1,5 @@
 -- What the call on the reply to a transaction answers (Matrix, Server-Server API, "Transactions": the response of `PUT /send/{txnId}`).
-use Rattle.std.specs.Prelude.{ℕ, List, [], map, is_some, if◌then◌else◌, Option, Some, None, option_map, option_and_then, unwrap_or, Result, Ok, Err}
+use Rattle.std.specs.Prelude.{ℕ, List, map, is_some, if◌then◌else◌, Option, Some, None, option_map, option_and_then, unwrap_or, Result, Ok, Err}
 use Rattle.std.specs.List.{list_all}
 use Rattle.std.specs.FinMap as finite
 use Rattle.serde_json.specs.Data.{Data}

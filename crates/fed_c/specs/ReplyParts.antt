@@ -1,6 +1,5 @@
 -- Verdicts that are entered one after another, for the clauses of private functions.
 use Rattle.std.specs.Prelude.{◌≡◌, ◌⊎◌, ℕ, List, [], ◌∷◌, Option, Some, None, option_and_then, Result, Ok, Err}
-use Rattle.std.specs.FinMap as finite
 use Rattle.serde_json.specs.Data.{Data}
 use Rattle.fed_txn.specs.Verdicts.{VerdictMap, with_verdict}
 use Rattle.fed_c.specs.declared.status.Status.{Status}

@@ -1,5 +1,5 @@
 -- What the call on state resolution answers (Matrix, room version 2, "State resolution").
-use Rattle.std.specs.Prelude.{ℕ, List, map, Result, Ok, Err}
+use Rattle.std.specs.Prelude.{ℕ, List, map, Result, Ok}
 use Rattle.std.specs.FinMap as finite
 use Rattle.serde_json.specs.Data.{Data, string, array}
 use Rattle.serde_json.specs.View.{items_of}

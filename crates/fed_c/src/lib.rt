@@ -9,6 +9,7 @@
 //! - `output`: from an answer to the caller's buffer
 //! - `values`: from bytes to a JSON value
 //! - `texts`: texts made of a value: the canonical one, the redaction, the signed one, the event id and the content hash
+//! - `several`: ids and content hashes of several events
 //! - `events`: the tests of an event
 //! - `requests`: the bytes that are signed for a request
 //! - `transactions`: the form of a transaction's body
@@ -19,10 +20,12 @@
 //! - `history`, `states`: the events of a room, and states of it, as arrays give them
 //! - `signers`: signatures that the caller has checked
 //! - `allowed`: whether a room allows an event
+//! - `destinations`: the servers that an event goes to
 //! - `resolution`: what several states of a room resolve to
 #![tactic(auto)]
 
 mod allowed;
+mod destinations;
 mod events;
 mod history;
 mod output;
@@ -30,6 +33,7 @@ mod replies;
 mod requests;
 mod resolution;
 mod selection;
+mod several;
 mod signers;
 mod states;
 mod status;

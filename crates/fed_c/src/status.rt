@@ -54,6 +54,8 @@ pub enum Status {
     BadEvents,
     /// The value is no array of the ids of state events of the room, or no array of such arrays.
     BadState,
+    /// The value is no array of the names of servers.
+    BadServers,
 }
 
 impl Status {
@@ -85,6 +87,7 @@ impl Status {
             Status::NotSigned => 20,
             Status::BadEvents => 21,
             Status::BadState => 22,
+            Status::BadServers => 23,
         }
     }
 }

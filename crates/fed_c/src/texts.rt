@@ -104,7 +104,12 @@ pub extern "C" fn wikzord_event_id(
     give(event_id(alloc, text), out, needed)
 }
 
-fn event_id(alloc: Global, text: &[u8]) -> Answer
+/// The id of the event of a text.
+///
+/// # Errors
+///
+/// `NotJson` and `NotCanonical`. `Memory` where memory ran out.
+pub(crate) fn event_id(alloc: Global, text: &[u8]) -> Answer
     ensures ok { IfOk result (λ bytes. of_value event_id_of (value_of text.now) ≡ Ok bytes.items) }
     ensures fault { IfErr result (λ status. status ≢ Memory → of_value event_id_of (value_of text.now) ≡ Err status) }
 {
@@ -130,7 +135,12 @@ pub extern "C" fn wikzord_content_hash(
     give(content_hash(alloc, text), out, needed)
 }
 
-fn content_hash(alloc: Global, text: &[u8]) -> Answer
+/// The content hash of the event of a text.
+///
+/// # Errors
+///
+/// `NotJson` and `NotCanonical`. `Memory` where memory ran out.
+pub(crate) fn content_hash(alloc: Global, text: &[u8]) -> Answer
     ensures ok { IfOk result (λ bytes. of_value content_hash_of (value_of text.now) ≡ Ok bytes.items) }
     ensures fault { IfErr result (λ status. status ≢ Memory → of_value content_hash_of (value_of text.now) ≡ Err status) }
 {

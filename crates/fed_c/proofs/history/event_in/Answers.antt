@@ -1,4 +1,4 @@
-use Rattle.std.proofs.Common.{◌≡◌, Err, ap}
+use Rattle.std.proofs.Common.{Err, ap}
 use Rattle.fed_json.specs.JsonRef.{seen}
 use Rattle.fed_c.proofs.Histories.{event_checked, event_lacks_signature, test_ends}
 use Rattle.fed_c.proofs.history.event_in.Goals as goal

@@ -1,6 +1,6 @@
-use Rattle.std.proofs.Common.{◌≡◌, ◌∙◌, sym}
+use Rattle.std.proofs.Common.{◌∙◌, sym}
 use Rattle.fed_c.specs.XMatrix.{destination_of}
-use Rattle.fed_c.proofs.Headers.{part_answers, part_ends, part_memory, named, unnamed}
+use Rattle.fed_c.proofs.Headers.{part_answers, part_ends, named, unnamed}
 use Rattle.fed_c.proofs.x_matrix.destination.Goals as goal
 
 pub returns-in_err-said : goal.returns-in_err-said

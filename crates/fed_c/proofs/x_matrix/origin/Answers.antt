@@ -1,6 +1,6 @@
-use Rattle.std.proofs.Common.{◌≡◌, ◌∙◌}
+use Rattle.std.proofs.Common.{◌∙◌}
 use Rattle.fed_c.specs.XMatrix.{origin_of}
-use Rattle.fed_c.proofs.Headers.{part_answers, part_ends, part_memory}
+use Rattle.fed_c.proofs.Headers.{part_answers, part_ends}
 use Rattle.fed_c.proofs.x_matrix.origin.Goals as goal
 
 pub returns-in_err-said : goal.returns-in_err-said

@@ -1,4 +1,4 @@
-use Rattle.std.proofs.Common.{◌≡◌, Err, ap}
+use Rattle.std.proofs.Common.{Err, ap}
 use Rattle.fed_c.proofs.Headers.{no_text_read, said_read, bad_read, memory_read}
 use Rattle.fed_c.proofs.x_matrix.reading.Goals as goal
 
