@@ -3,6 +3,7 @@
 -- event allows nothing but a create event.
 use Rattle.std.specs.Prelude.{ℕ, ℤ, int_lt, List, [], ◌∷◌, Bool, true, not, ⊤, Option, Result, option_map, unwrap_or, is_none, slice_get, codes, bytes_eq}
 use Rattle.serde_json.specs.Data.{Data, null}
+use Rattle.fed_event.specs.EventId.{event_id_of}
 use Rattle.fed_event.specs.Fields.{content_of, kind_of, sender_of, state_key_of}
 use Rattle.fed_event.specs.Checked.{CheckedEvent}
 use Rattle.fed_room_contract.specs.declared.rule.Rule.{Rule}
@@ -16,7 +17,7 @@ use Rattle.fed_auth.specs.MemberRules.{table_of}
 use Rattle.fed_auth.specs.CreateRules.{create_table}
 use Rattle.fed_auth.specs.PowerRules.{power_table}
 use Rattle.fed_auth.specs.EventRules.{is_unfederated, member_target, is_unauthorised, is_of_other_user}
-use Rattle.fed_auth.specs.StateView.{Look, event_in, create_event, power_content, room_levels, membership_of, facts_of}
+use Rattle.fed_auth.specs.StateView.{Look, event_in, event_among, create_event, power_content, room_levels, membership_of, facts_of}
 
 -- rule 4: m.room.member
 unfoldable pub member_table : Look → LevelsGiven → Data → CheckedEvent → List Row
@@ -69,3 +70,7 @@ first_id events = option_map id_of (slice_get events 0)
 -- allowed, or the rule that rejects it
 abbrev pub allowed_of : List Stored → CheckedEvent → StateMap → Result ⊤ Rule
 allowed_of events checked state = decide (rule_table (event_in events state) (first_id events) checked)
+
+-- the same by the events of the state themselves, whose create event is the first of the room
+abbrev pub allowed_by : List Data → CheckedEvent → Result ⊤ Rule
+allowed_by events checked = decide (rule_table (event_among events) (option_map event_id_of (create_event (event_among events))) checked)

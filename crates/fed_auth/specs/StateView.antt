@@ -1,10 +1,11 @@
 -- What the state of a room says: the events that it names in the graph, and what the authorization rules read in them (Matrix, room
 -- version 10, "Authorization rules"). A room without a join rules event is for invited users.
-use Rattle.std.specs.Prelude.{ℕ, int_le, List, [], Bool, ◌&&◌, Option, option_map, option_and_then, unwrap_or, is_some, codes, bytes_eq}
+use Rattle.std.specs.Prelude.{ℕ, int_le, List, [], Bool, ◌&&◌, Option, Some, find, option_map, option_and_then, unwrap_or, is_some, codes, bytes_eq}
+use Rattle.std.specs.Option.{option_eq}
 use Rattle.serde_json.specs.Data.{Data}
 use Rattle.serde_json.specs.Find.{as_str, get}
 use Rattle.fed_event.specs.Tests.{holds}
-use Rattle.fed_event.specs.Fields.{content_of, prev_events_of, sender_of}
+use Rattle.fed_event.specs.Fields.{content_of, kind_of, prev_events_of, sender_of, state_key_of}
 use Rattle.fed_event.specs.EventId.{event_id_of}
 use Rattle.fed_event.specs.Checked.{authorising_user_of}
 use Rattle.fed_room_contract.specs.declared.graph.Stored.{Stored}
@@ -28,6 +29,14 @@ Look = List ℕ → List ℕ → Option Data
 -- the one that the state names and the graph has
 unfoldable pub event_in : List Stored → StateMap → Look
 event_in events state kind key = option_map (λ stored. stored.event.event) (option_and_then (stored_at events) (entry_at state kind key))
+
+-- an event of this type and state key
+abbrev pub is_at : List ℕ → List ℕ → Data → Bool
+is_at kind key event = bytes_eq kind (kind_of event) && option_eq bytes_eq (Some key) (state_key_of event)
+
+-- the first of these that is
+unfoldable pub event_among : List Data → Look
+event_among events kind key = find (is_at kind key) events
 
 abbrev pub creator_in : Data → Option (List ℕ)
 creator_in create = option_and_then as_str (get (codes "creator") (content_of create))

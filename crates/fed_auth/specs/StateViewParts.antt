@@ -1,6 +1,8 @@
 -- The look-up that a `StateView` stands for.
 use Rattle.fed_auth.specs.declared.state_view.StateView.{StateView}
-use Rattle.fed_auth.specs.StateView.{Look, event_in}
+use Rattle.fed_auth.specs.declared.state_view.StateView.TheVariants.{Named, Listed}
+use Rattle.fed_auth.specs.StateView.{Look, event_in, event_among}
 
 abbrev pub look_of : StateView → Look
-look_of view = event_in view.graph.now.stored view.state.now
+look_of (Named graph state) = event_in graph.now.stored state.now
+look_of (Listed events) = event_among events.now

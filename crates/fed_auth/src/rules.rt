@@ -1,9 +1,10 @@
 // Whether a room allows an event.
 ghost use Rattle.std.specs.Prelude.{◌≡◌, Some, option_map};
+ghost use Rattle.fed_event.specs.EventId.{event_id_of};
 ghost use Rattle.fed_auth.specs.Table.{decide};
 ghost use Rattle.fed_auth.specs.StateView.{create_event};
 ghost use Rattle.fed_auth.specs.StateViewParts.{look_of};
-ghost use Rattle.fed_auth.specs.Allowed.{member_table, is_outside, lacks_invite_level, lacks_level, other_table, room_table, first_id, allowed_of};
+ghost use Rattle.fed_auth.specs.Allowed.{member_table, is_outside, lacks_invite_level, lacks_level, other_table, room_table, first_id, rule_table, allowed_of, allowed_by};
 
 use crate::create_rules::allow_create;
 use crate::event_rules::{is_of_other_user, is_unauthorised, is_unfederated, member_target};
@@ -22,18 +23,44 @@ use fed_room_contract::{Graph, Rule, State};
 /// # Errors
 ///
 /// The first rule that holds, where it rejects the event; 2.4 where the state names no create event and this is none.
-#[tactic(auto, unfolding(crate::specs::Allowed::rule_table))]
 pub fn allowed(graph: &Graph, event: &Checked, state: &State) -> Result<(), Rule>
     ensures { result ≡ allowed_of graph.now.stored event.now state.now }
 {
+    allow(StateView::Named(graph, state), first_id(graph), event)
+}
+
+/// The same by the events of the state themselves, of which those at the keys of the event's selection are enough: at a type and state key
+/// the first of them holds. The create event among them is the first of the room. It takes no memory.
+///
+/// # Errors
+///
+/// Those of `allowed`.
+pub fn allowed_by(events: &[Pdu], event: &Checked) -> Result<(), Rule>
+    ensures { result ≡ allowed_by events.now event.now }
+{
+    let view = StateView::Listed(events);
+    allow(view, created_id(view), event)
+}
+
+// All rules, in a room whose first event has this id.
+#[tactic(auto, unfolding(crate::specs::Allowed::rule_table))]
+fn allow(view: StateView<'_>, first: Option<&EventId>, event: &Checked) -> Result<(), Rule>
+    ensures { result ≡ decide (rule_table (look_of view.entry) (option_map (λ id. id.now) first.entry) event.now) }
+{
     if event.event().kind() == "m.room.create" {
-        return allow_create(event.event(), first_id(graph));
+        return allow_create(event.event(), first);
     }
-    let view = StateView { graph, state };
     match view.create() {
         Some(create) => allow_in_room(view, create, event),
         None => Err(Rule::condition(2, 4)),
     }
+}
+
+// The id of the create event.
+fn created_id(view: StateView<'_>) -> Option<&EventId>
+    ensures { option_map (λ id. id.now) result ≡ option_map event_id_of (create_event (look_of view.entry)) }
+{
+    Some(view.create()?.id())
 }
 
 // The id of the first event of the graph.

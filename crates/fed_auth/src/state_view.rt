@@ -1,7 +1,7 @@
 // What the state of a room says.
 ghost use Rattle.std.specs.Prelude.{◌≡◌, Some, option_map};
 ghost use Rattle.fed_json.specs.JsonRef.{seen};
-ghost use Rattle.fed_auth.specs.StateView.{creator_in, is_first_join};
+ghost use Rattle.fed_auth.specs.StateView.{creator_in, event_among, event_in, is_at, is_first_join};
 
 use crate::event_rules::is_only;
 use crate::join_rule::JoinRule;
@@ -12,25 +12,27 @@ use fed_event::{Pdu, authorising_user};
 use fed_json::JsonRef;
 use fed_room_contract::{Graph, State};
 
-// A state, and the graph that has the events that it names.
+// A state: the events that hold in a room.
 #[derive(Clone, Copy)]
-pub(crate) struct StateView<'a> {
-    pub graph: &'a Graph,
-    pub state: &'a State,
+pub(crate) enum StateView<'a> {
+    // The ids of these, and the graph that has the events.
+    Named(&'a Graph, &'a State),
+    // The events.
+    Listed(&'a [Pdu]),
 }
 
 impl<'a> StateView<'a> {
-    ghost use Rattle.fed_auth.specs.StateView.{event_in, create_event, power_content, room_levels, membership_of, room_join_rule, is_authorised_in, member_of, facts_of};
+    ghost use Rattle.fed_auth.specs.StateView.{create_event, power_content, room_levels, membership_of, room_join_rule, is_authorised_in, member_of, facts_of};
     ghost use Rattle.fed_auth.specs.StateViewParts.{look_of};
 
-    // The event that the state names at this type and state key.
-    #[tactic(auto, unfolding(crate::specs::StateView::event_in))]
+    // The event that holds at this type and state key.
     pub(crate) fn event(self, kind: &str, state_key: &str) -> Option<&'a Pdu>
         ensures { option_map (λ event. event.now) result ≡ look_of self.entry kind.now state_key.now }
     {
-        let id = self.state.get(kind, state_key)?;
-        let stored = self.graph.get(id.as_str())?;
-        Some(stored.event.event())
+        match self {
+            StateView::Named(graph, state) => named_event(graph, state, kind, state_key),
+            StateView::Listed(events) => given_event(events, kind, state_key),
+        }
     }
 
     pub(crate) fn create(self) -> Option<&'a Pdu>
@@ -120,6 +122,36 @@ impl<'a> StateView<'a> {
             level: levels.user(user),
         }
     }
+}
+
+// The event that the state names at this type and state key.
+#[tactic(auto, unfolding(crate::specs::StateView::event_in))]
+fn named_event<'a>(graph: &'a Graph, state: &State, kind: &str, state_key: &str) -> Option<&'a Pdu>
+    ensures { option_map (λ event. event.now) result ≡ event_in graph.now.stored state.now kind.now state_key.now }
+{
+    let id = state.get(kind, state_key)?;
+    let stored = graph.get(id.as_str())?;
+    Some(stored.event.event())
+}
+
+// The first of these events that is of this type and state key.
+#[tactic(auto, unfolding(crate::specs::StateView::event_among))]
+fn given_event<'a>(events: &'a [Pdu], kind: &str, state_key: &str) -> Option<&'a Pdu>
+    ensures { option_map (λ event. event.now) result ≡ event_among events.now kind.now state_key.now }
+{
+    for event in events {
+        if is_at(event, kind, state_key) {
+            return Some(event);
+        }
+    }
+    None
+}
+
+// Whether the event is of this type and state key.
+fn is_at(event: &Pdu, kind: &str, state_key: &str) -> bool
+    ensures { result ≡ is_at kind.now state_key.now event.now }
+{
+    event.kind() == kind && event.state_key() == Some(state_key)
 }
 
 /// The creator that a create event names, where it names one.
