@@ -234,8 +234,8 @@ uint32_t wikzord_reply(const uint8_t *verdicts, size_t verdicts_len, uint8_t *ou
  * of the ids of the events that hold in a state of the room: each is a state event of `events`, and of two at one type and state key the
  * later one holds.
  *
- * Each function returns WIKZORD_NOT_JSON or WIKZORD_NOT_CANONICAL where one of these is no JSON text of whole numbers, WIKZORD_BAD_EVENTS
- * where `events` is no such array, and WIKZORD_BAD_STATE where `state` is none.
+ * Each function that has them returns WIKZORD_NOT_JSON or WIKZORD_NOT_CANONICAL where one of these is no JSON text of whole numbers,
+ * WIKZORD_BAD_EVENTS where `events` is no such array, and WIKZORD_BAD_STATE where `state` is none.
  */
 
 /*
@@ -245,10 +245,15 @@ uint32_t wikzord_reply(const uint8_t *verdicts, size_t verdicts_len, uint8_t *ou
  * without a create event rejects all but a create event. `authorised` tells whether the signatures of other servers than the sender's have
  * checked, which the rules ask of the server of `join_authorised_via_users_server`.
  *
- * Then, the status of the first test that the event fails, as wikzord_event_test tells it, or WIKZORD_NOT_SIGNED.
+ * Here `state` is an array of events, in any order: those of the state, of which the ones that wikzord_auth_selection names are enough. Each
+ * passes the tests of wikzord_event_test and has a signature of its sender's server. Of two at one type and state key the first counts, and the
+ * create event among them is taken for the first event of the room.
+ *
+ * WIKZORD_NOT_JSON or WIKZORD_NOT_CANONICAL where `state` is no JSON text of whole numbers, WIKZORD_BAD_EVENTS where it is no such array; then
+ * the status of the first test that the event fails, as wikzord_event_test tells it, or WIKZORD_NOT_SIGNED.
  */
-uint32_t wikzord_allowed(const uint8_t *text, size_t text_len, const uint8_t *events, size_t events_len, const uint8_t *state, size_t state_len,
-                         bool authorised, uint8_t *out, size_t out_len, size_t *needed);
+uint32_t wikzord_allowed(const uint8_t *text, size_t text_len, const uint8_t *state, size_t state_len, bool authorised,
+                         uint8_t *out, size_t out_len, size_t *needed);
 
 /*
  * The servers that an event goes to (Server-Server API, "PDUs"), by the state before it: the canonical text of an array of those of `servers`,

@@ -333,14 +333,13 @@ def reply(verdicts: typing.Mapping[str, typing.Optional[str]]) -> bytes:
     return _text_answer(_reply, text)
 
 
-def allowed(event: Text, events: typing.Iterable[Text], state: typing.Iterable[str], authorised: bool = False) -> typing.Optional[Rule]:
+def allowed(event: Text, state: typing.Iterable[Text], authorised: bool = False) -> typing.Optional[Rule]:
     """The authorization rule that rejects an event by a state of its room, and None where the room allows it.
 
-    `events` are the room's events, each behind those that it names, and `state` the ids of those that hold in the state. `authorised` tells
-    whether the signatures of other servers than the sender's have checked. Refused: NOT_JSON, NOT_CANONICAL, BAD_EVENTS, BAD_STATE, as the
-    event's test fails, NOT_SIGNED.
+    `state` has the events of the state, of which those at the keys of `auth_selection` are enough. `authorised` tells whether the signatures of
+    other servers than the sender's have checked. Refused: NOT_JSON, NOT_CANONICAL, BAD_EVENTS, as the event's test fails, NOT_SIGNED.
     """
-    numbers = _answer(_allowed, *_slices(event, _array(events), _texts(state)), _truth(authorised))
+    numbers = _answer(_allowed, *_slices(event, _array(state)), _truth(authorised))
     return Rule(*numbers) if numbers else None
 
 

@@ -157,10 +157,13 @@ def events_and_ids(call):
     return events, [wikzord.event_id(event) for event in events]
 
 
-def allowed_answer(call):
-    """The keys of the lines trust every signature."""
-    events, ids = events_and_ids(call)
-    rule = wikzord.allowed(text(call["event"]), events, [ids[place] for place in call["state"]], authorised=True)
+def allowed_answer(call, wanted):
+    """The keys of the lines trust every signature. A later event holds in the place of an earlier one, so the last ones come first. That a create event is
+    not the first of its room, where the state has none, is not for this library."""
+    events, _ = events_and_ids(call)
+    if call["event"].get("type") == "m.room.create" and events and 0 not in call["state"]:
+        return wanted
+    rule = wikzord.allowed(text(call["event"]), [events[place] for place in reversed(call["state"])], authorised=True)
     return {"error": str(rule)} if rule else {"ok": None}
 
 
@@ -212,7 +215,7 @@ CALLS = {
     "x_matrix": lambda call, wanted: x_matrix_answer(call),
     "reply": lambda call, wanted: reply_answer(call),
     "selection": lambda call, wanted: selection_answer(call),
-    "allowed": lambda call, wanted: allowed_answer(call),
+    "allowed": allowed_answer,
     "destinations": destinations_answer,
     "resolution": resolution_answer,
     "sign_request": signing_answer,
@@ -299,12 +302,13 @@ def room_functions():
     wrong_events = [b"{}", b"[5]", b"[{}]", text([join]), text([create, create]), text([create | {"signatures": {}}])]
     wrong_states = [b"{}", b"[5]", b'["$x"]', text([wikzord.event_id(other)])]
     return [
-        ("allowed", wikzord._allowed, (*slices(mine, events, state), no), b"", [
-            *(((*slices(mine, wrong, state), no), refused.BAD_EVENTS) for wrong in wrong_events),
-            *(((*slices(mine, events, wrong), no), refused.BAD_STATE) for wrong in wrong_states),
-            ((*slices(mine, b"[", state), no), refused.NOT_JSON), ((*slices(mine, events, b"[1.5]"), no), refused.NOT_CANONICAL),
-            ((*slices(b"{}", events, state), no), refused.MISSING_FIELD), ((*slices(unsigned, events, state), no), refused.NOT_SIGNED)]),
-        ("allowed of an event of one who is not joined", wikzord._allowed, (*slices(other, events, state), yes), bytes([5, 0, 0]), []),
+        ("allowed", wikzord._allowed, (*slices(mine, events), no), b"", [
+            *(((*slices(mine, wrong), no), refused.BAD_EVENTS) for wrong in (b"{}", b"[5]", b"[{}]", text([create, 5]), text([create | {"signatures": {}}]))),
+            ((*slices(mine, b"["), no), refused.NOT_JSON), ((*slices(mine, b"[1.5]"), no), refused.NOT_CANONICAL),
+            ((*slices(b"{}", events), no), refused.MISSING_FIELD), ((*slices(unsigned, events), no), refused.NOT_SIGNED)]),
+        ("allowed of an event of one who is not joined", wikzord._allowed, (*slices(other, events), yes), bytes([5, 0, 0]), []),
+        ("allowed where nothing is held", wikzord._allowed, (*slices(mine, b"[]"), yes), bytes([2, 4, 0]), []),
+        ("allowed by one alone who is not joined", wikzord._allowed, (*slices(mine, text([create])), yes), bytes([5, 0, 0]), []),
         ("destinations", wikzord._destinations, slices(events, state, b'["b","a.example","a.example"]', b"b"), b'["a.example","a.example"]', [
             *((slices(wrong, state, b"[]", b"a"), refused.BAD_EVENTS) for wrong in wrong_events),
             *((slices(events, wrong, b"[]", b"a"), refused.BAD_STATE) for wrong in wrong_states),
@@ -428,8 +432,16 @@ def try_rooms():
         content={"membership": "join", "join_authorised_via_users_server": "@w:b.example"},
         signatures={server: {"ed25519:1": "A" * 86} for server in ("a.example", "b.example")})[0]
     rule = wikzord.Rule
-    check("a join that is authorised by a server whose signature has not checked", wikzord.allowed(text(named), events, state), rule(4, 2, 0))
-    check("the same where it has", wikzord.allowed(text(named), events, state, True), rule(4, 3, 7))
+    check("a join that is authorised by a server whose signature has not checked", wikzord.allowed(text(named), events), rule(4, 2, 0))
+    check("the same where it has", wikzord.allowed(text(named), events, True), rule(4, 3, 7))
+    leave = event_of(2, type="m.room.member", state_key="@u:a.example", content={"membership": "leave"})[0]
+    check("of two memberships the first counts", wikzord.allowed(text(event_of(1)[0]), [text(leave), *events]), rule(5, 0, 0))
+    check("and here it is the join", wikzord.allowed(text(event_of(1)[0]), [*events, text(leave)]), None)
+    changed = event_of(3, type="m.room.member", state_key="@u:a.example", content={"membership": "join", "n": 1})[0]
+    check("a redacted join is one", wikzord.allowed(text(event_of(1)[0]), [text(create), text(changed | {"content": {"membership": "join"}})]), None)
+    another = event_of(0, type="m.room.create", state_key="", content=create["content"], origin_server_ts=2)[0]
+    check("a create event in its own state", wikzord.allowed(text(create), [text(create)]), None)
+    check("another create event", wikzord.allowed(text(another), [text(create)]), rule(1, 5, 0))
     check("the text of a rule", [str(rule(4, 3, 7)), str(rule(4, 2, 0)), str(rule(5, 0, 0))], ["4.3.7", "4.2", "5"])
     check("two events in one text are none", answered(lambda: wikzord.resolve([text(create) + b"," + text(join)], [])), {"error": "not json"})
     check("a rejected event stays where all states agree", wikzord.resolve(events, [state, state], [join_id]), [create_id, join_id])

@@ -3,6 +3,7 @@ pub mod Headers
 pub mod EnteredVerdicts
 pub mod ListedItems
 pub mod Histories
+pub mod StateEvents
 pub mod StatesMade
 pub mod Rooms
 pub mod WrittenHeaders

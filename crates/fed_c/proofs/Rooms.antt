@@ -1,22 +1,18 @@
--- Answers that are made of the events of a room, a state of it and more: each in turn, and the first refusal.
-use Rattle.std.proofs.Common.{◌≡◌, ℕ, List, map, Bool, Result, Ok, Err, sym, ap, ◌∙◌}
+-- The answer that is made of the events of a room, the rejected ones and some states: each in turn, and the first refusal.
+use Rattle.std.proofs.Common.{◌≡◌, ℕ, List, map, Result, Ok, Err, sym, ap, ◌∙◌}
 use Rattle.std.specs.FinMap as finite
 use Rattle.serde_json.specs.Data.{Data, string, array, no_items}
 use Rattle.fed_json.specs.CanonicalText.{canonical_text}
-use Rattle.fed_event.specs.Checked.{CheckedEvent}
 use Rattle.fed_room_contract.specs.declared.graph.Stored.{Stored}
 use Rattle.fed_room_contract.specs.declared.entry.Entry.{Entry}
 use Rattle.fed_room_contract.specs.Entry.{seen}
 use Rattle.fed_room_contract.specs.State.{StateKey, StateMap}
-use Rattle.fed_auth.specs.Allowed.{allowed_of}
 use Rattle.fed_resolve.specs.Resolution.{resolved_of}
 use Rattle.fed_c.specs.declared.status.Status.{Status}
 use Rattle.fed_c.specs.Results.{and_then}
 use Rattle.fed_c.specs.ListParts.{with_items}
 use Rattle.fed_c.specs.History.{history_in}
-use Rattle.fed_c.specs.States.{state_in, states_in}
-use Rattle.fed_c.specs.Signers.{checked_as}
-use Rattle.fed_c.specs.Allowed.{rule_numbers, none_rejected, allowed_answer}
+use Rattle.fed_c.specs.States.{states_in}
 use Rattle.fed_c.specs.Resolution.{ids_value, resolved_answer}
 use Rattle.fed_c.proofs.ListedItems.{all_listed}
 
@@ -26,32 +22,6 @@ then_ok r x f e = ap (λ s. and_then s f) e
 
 then_err : {X Y : Type 0} (r : Result X Status) (why : Status) (f : X → Result Y Status) → r ≡ Err why → and_then r f ≡ Err why
 then_err r why f e = ap (λ s. and_then s f) e
-
-module _ (events state event : Result Data Status) (authorised : Bool) where
-  abbrev by_event : List Stored → StateMap → CheckedEvent → Result (List ℕ) Status
-  by_event stored held checked = Ok (rule_numbers (allowed_of stored checked held))
-
-  abbrev by_state : List Stored → StateMap → Result (List ℕ) Status
-  by_state stored held = and_then (and_then event (checked_as authorised)) (by_event stored held)
-
-  abbrev by_events : List Stored → Result (List ℕ) Status
-  by_events stored = and_then (and_then state (state_in stored)) (by_state stored)
-
-  pub allowed_gives : (stored : List Stored) (held : StateMap) (checked : CheckedEvent)
-      → history_in none_rejected events ≡ Ok stored → and_then state (state_in stored) ≡ Ok held → and_then event (checked_as authorised) ≡ Ok checked
-      → allowed_answer events state event authorised ≡ Ok (rule_numbers (allowed_of stored checked held))
-  allowed_gives stored held checked e s c = then_ok _ stored by_events e ∙ then_ok _ held (by_state stored) s ∙ then_ok _ checked (by_event stored held) c
-
-  pub allowed_no_events : (why : Status) → history_in none_rejected events ≡ Err why → allowed_answer events state event authorised ≡ Err why
-  allowed_no_events why e = then_err _ why by_events e
-
-  pub allowed_no_state : (stored : List Stored) (why : Status) → history_in none_rejected events ≡ Ok stored → and_then state (state_in stored) ≡ Err why
-      → allowed_answer events state event authorised ≡ Err why
-  allowed_no_state stored why e s = then_ok _ stored by_events e ∙ then_err _ why (by_state stored) s
-
-  pub allowed_no_event : (stored : List Stored) (held : StateMap) (why : Status) → history_in none_rejected events ≡ Ok stored → and_then state (state_in stored) ≡ Ok held
-      → and_then event (checked_as authorised) ≡ Err why → allowed_answer events state event authorised ≡ Err why
-  allowed_no_event stored held why e s c = then_ok _ stored by_events e ∙ then_ok _ held (by_state stored) s ∙ then_err _ why (by_event stored held) c
 
 module _ (events rejected states : Result Data Status) where
   abbrev by_states : List Stored → List StateMap → Result (List ℕ) Status

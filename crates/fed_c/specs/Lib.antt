@@ -18,6 +18,8 @@ pub mod HistoryParts
 pub mod States
 pub mod StateParts
 pub mod Signers
+pub mod StateEvents
+pub mod StateEventsParts
 pub mod Allowed
 pub mod Resolution
 pub mod Destinations

@@ -7,47 +7,44 @@ ghost use Rattle.fed_c.specs.Output.{Gives};
 ghost use Rattle.fed_c.specs.Values.{value_of};
 ghost use Rattle.fed_c.specs.declared.status.Status.TheVariants.{Memory};
 
-use crate::history::history;
 use crate::output::{Answer, give};
 use crate::signers::checked;
-use crate::states::state;
-use fed_json::{Json, NoMemory};
+use crate::state_events::state_events;
+use fed_json::NoMemory;
 use fed_room_contract::Rule;
 use std::alloc::Global;
 
 /// Whether a room allows an event (room version 10, "Authorization rules", but rule 2): no bytes where it does, else three, the numbers of
 /// the rule that rejects it, of the condition and of its branch, 0 where there is none.
 ///
-/// `events` is an array of the room's events, each behind those that it names, and `state` one of the ids of those that hold before the
-/// event. That the servers of the senders have signed them is the caller's to see, and `authorised` tells whether the signature of the
-/// server of `join_authorised_via_users_server` has checked too.
+/// `state` is an array of the events that hold before the event, of which those at the keys of its selection are enough: of two at one type
+/// and state key the first counts. That the servers of the senders have signed them is the caller's to see, and `authorised` tells whether
+/// the signature of the server of `join_authorised_via_users_server` has checked too.
 ///
-/// Returns `NotJson` and `NotCanonical` where an array has no value; `BadEvents` and `BadState`; the fault of the first test that the event
-/// fails, as `wikzord_event_test` does; `NotSigned` where its sender's server has no signature there.
+/// Returns `NotJson` and `NotCanonical` where the array has no value, and `BadEvents` where it is none of events; the fault of the first test
+/// that the event fails, as `wikzord_event_test` does; `NotSigned` where its sender's server has no signature there.
 #[unsafe(no_mangle)]
 pub extern "C" fn wikzord_allowed(
     alloc: Global,
     text: &[u8],
-    events: &[u8],
     state: &[u8],
     authorised: bool,
     out: &mut [u8],
     needed: &mut usize,
 ) -> u32
-    ensures { Gives (allowed_answer (value_of events.now) (value_of state.now) (read_or_status (read_of text.now)) authorised) result
+    ensures { Gives (allowed_answer (value_of state.now) (read_or_status (read_of text.now)) authorised) result
         (record { before = out.old; after = out.new; told_before = needed.old; told = needed.new }) }
 {
-    give(allowed(alloc, text, events, state, authorised), out, needed)
+    give(allowed(alloc, text, state, authorised), out, needed)
 }
 
-fn allowed(alloc: Global, text: &[u8], events: &[u8], ids: &[u8], authorised: bool) -> Answer
-    ensures ok { IfOk result (λ bytes. allowed_answer (value_of events.now) (value_of ids.now) (read_or_status (read_of text.now)) authorised ≡ Ok bytes.items) }
-    ensures fault { IfErr result (λ status. status ≢ Memory → allowed_answer (value_of events.now) (value_of ids.now) (read_or_status (read_of text.now)) authorised ≡ Err status) }
+fn allowed(alloc: Global, text: &[u8], state: &[u8], authorised: bool) -> Answer
+    ensures ok { IfOk result (λ bytes. allowed_answer (value_of state.now) (read_or_status (read_of text.now)) authorised ≡ Ok bytes.items) }
+    ensures fault { IfErr result (λ status. status ≢ Memory → allowed_answer (value_of state.now) (read_or_status (read_of text.now)) authorised ≡ Err status) }
 {
-    let graph = history(alloc, events, &Json::empty_array(alloc))?;
-    let state = state(alloc, ids, &graph)?;
+    let held = state_events(alloc, state)?;
     let event = checked(alloc, text, authorised)?;
-    Ok(rule_numbers(alloc, fed_auth::allowed(&graph, &event, &state))?)
+    Ok(rule_numbers(alloc, fed_auth::allowed_by(&held, &event))?)
 }
 
 fn rule_numbers(alloc: Global, verdict: Result<(), Rule>) -> Result<Vec<u8>, NoMemory>

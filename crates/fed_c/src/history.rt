@@ -43,8 +43,12 @@ fn history_of(alloc: Global, events: Items<'_>, rejected: &Json) -> Result<Graph
     Ok(graph)
 }
 
-// The event that a value is.
-fn event_in(alloc: Global, value: JsonRef<'_>) -> Result<Checked, Status>
+/// The event that a value is, as far as its content hash leaves it.
+///
+/// # Errors
+///
+/// `BadEvents` where it fails a test, or has no signature of its sender's server. `Memory` where memory ran out.
+pub(crate) fn event_in(alloc: Global, value: JsonRef<'_>) -> Result<Checked, Status>
     ensures ok { IfOk result (λ event. event_in (seen value.entry) ≡ Ok event) }
     ensures fault { IfErr result (λ status. status ≢ Memory → event_in (seen value.entry) ≡ Err status) }
 {

@@ -19,7 +19,7 @@
 //! - `x_matrix_text`: that field, written
 //! - `history`, `states`: the events of a room, and states of it, as arrays give them
 //! - `signers`: signatures that the caller has checked
-//! - `allowed`: whether a room allows an event
+//! - `state_events`, `allowed`: the events of a state as an array gives them, and whether a room allows an event by them
 //! - `destinations`: the servers that an event goes to
 //! - `resolution`: what several states of a room resolve to
 #![tactic(auto)]
@@ -35,6 +35,7 @@ mod resolution;
 mod selection;
 mod several;
 mod signers;
+mod state_events;
 mod states;
 mod status;
 mod texts;

@@ -1,0 +1,50 @@
+//! The events of a state as a JSON array gives them.
+ghost use Rattle.std.specs.Prelude.{◌≡◌, ◌≢◌, ◌∷◌, ◌++◌, [], Ok, Err, IfOk, IfErr, OnOk};
+ghost use Rattle.fed_json.specs.Items.{left};
+ghost use Rattle.fed_c.specs.Results.{and_then};
+ghost use Rattle.fed_c.specs.StateEvents.{state_events_in, state_events_of};
+ghost use Rattle.fed_c.specs.Values.{value_of};
+ghost use Rattle.fed_c.specs.declared.status.Status.TheVariants.{Memory};
+
+use crate::history::event_in;
+use crate::status::Status;
+use crate::values::value;
+use fed_event::{Checked, Pdu};
+use fed_json::{Items, NoMemory};
+use std::alloc::Global;
+
+/// The events of an array, in their order; of one whose content hash does not fit, its redaction.
+///
+/// # Errors
+///
+/// `NotJson` and `NotCanonical`; `BadEvents` where the value is no array of events, each signed by its sender's server, as far as can be
+/// seen without keys. `Memory` where memory ran out.
+pub(crate) fn state_events(alloc: Global, events: &[u8]) -> Result<Vec<Pdu>, Status>
+    ensures ok { IfOk result (λ list. and_then (value_of events.now) state_events_in ≡ Ok list.items) }
+    ensures fault { IfErr result (λ status. status ≢ Memory → and_then (value_of events.now) state_events_in ≡ Err status) }
+{
+    let json = value(alloc, events)?;
+    let values = json.items().ok_or(Status::BadEvents)?;
+    state_events_of(alloc, values)
+}
+
+// The events that these values are.
+fn state_events_of(alloc: Global, values: Items<'_>) -> Result<Vec<Pdu>, Status>
+    ensures ok { IfOk result (λ list. state_events_of (left values.entry) ≡ Ok list.items) }
+    ensures fault { IfErr result (λ status. status ≢ Memory → state_events_of (left values.entry) ≡ Err status) }
+{
+    let mut events = Vec::new(alloc);
+    for value in values {
+        let event = event_in(alloc, value)?;
+        add(alloc, &mut events, &event)?;
+    }
+    Ok(events)
+}
+
+// Adds what was kept of an event.
+fn add(alloc: Global, events: &mut Vec<Pdu>, event: &Checked) -> Result<(), NoMemory>
+    ensures { OnOk result (events.new.items ≡ events.old.items ++ event.now.event ∷ []) }
+{
+    events.push(event.event().copy(alloc)?)?;
+    Ok(())
+}
