@@ -88,6 +88,7 @@ Usage: fed [COMMAND]
 Commands:
   inbox  Answers lines of origin, transaction number and body
   sim    Simulates servers that send each other events, by a script
+  loop   Runs two servers that send and serve over sockets
   help   Print this message or the help of the given subcommand(s)
 
 Options:
@@ -118,6 +119,24 @@ Options:
   -h, --help  Print help
 
 {SCRIPT}"""
+
+LOOP_HELP = """\
+Runs two servers that send and serve over sockets
+
+Usage: fed loop [OPTIONS]
+
+Options:
+      --events <N>   How many events are sent, 1 to 1,000 [default: 120]
+      --clients <N>  How many clients send them, 1 to 8 [default: 3]
+  -h, --help         Print help
+
+The servers a.example and b.example run in one process, each with its threads, and have one room with a user of each. Clients at a.example
+send events, which go to b.example over the loopback interface, a connection for each transaction. Then three lines are printed:
+
+    sent <n>        how many events a.example offered
+    taken <n>       how many of them b.example took
+    delivered <n>   how many of them count as delivered at a.example
+"""
 
 # Commands, and what each of them prints. The first answer is lost, and the request comes again.
 RETRIED = [
@@ -250,6 +269,17 @@ def two_rooms():
     return line.decode(), answer({r: {}, q: unknown}), answer({r: unknown, q: {}})
 
 
+def looped(count, *words):
+    """The same of two servers of which one sends so many events to the other."""
+    return ["loop", *words], "", f"sent {count}\ntaken {count}\ndelivered {count}\n", "", 0
+
+
+def out_of_range(name, value, most):
+    """The same where a count is refused."""
+    told = f"invalid value '{value}' for '--{name} <N>': {value} is not in 1..={most}"
+    return ["loop", f"--{name}", value], "", "", refused(told), 2
+
+
 def scripted(commands):
     """The words, standard input, standard output, standard error and the status of a script."""
     given, out = ("".join(f"{line}\n" for line in lines) for lines in zip(*commands))
@@ -275,11 +305,19 @@ def cases():
         (["help", "inbox"], "", INBOX_HELP, "", 0),
         (["sim", "--help"], "", SIM_HELP, "", 0),
         (["help", "sim"], "", SIM_HELP, "", 0),
+        (["loop", "--help"], "", LOOP_HELP, "", 0),
+        (["help", "loop"], "", LOOP_HELP, "", 0),
         (["--version"], "", "fed 0.1.0\n", "", 0),
         (["word"], "", "", refused("unrecognized subcommand 'word'", "Usage: fed [COMMAND]"), 2),
         (["--name", "c.example"], "", "", refused("unexpected argument '--name' found", "Usage: fed [COMMAND]"), 2),
         (["inbox", "word"], "", "", refused("unexpected argument 'word' found", "Usage: fed inbox [OPTIONS]"), 2),
         (["sim", "word"], "", "", refused("unexpected argument 'word' found", "Usage: fed sim"), 2),
+        (["loop", "word"], "", "", refused("unexpected argument 'word' found", "Usage: fed loop [OPTIONS]"), 2),
+        (["loop", "--events", "x"], "", "", refused("invalid value 'x' for '--events <N>': invalid digit found in string"), 2),
+        out_of_range("events", "0", 1000),
+        out_of_range("events", "1001", 1000),
+        out_of_range("clients", "0", 8),
+        out_of_range("clients", "9", 8),
         (["inbox", "--name"], "", "", refused("a value is required for '--name <N>' but none was supplied"), 2),
         (["inbox", "--name", b"\xff"], "", "", "error: an argument is not UTF-8\n", 2),
         ([], "", "", "", 0),
@@ -306,6 +344,9 @@ def cases():
         ([], empty("x.example") * 100_000, NOT_LISTED * 100_000, "", 0),
         (["inbox"], rooms, with_r, "", 0),
         (["inbox", "--room", "!q:a.example"], rooms, with_q, "", 0),
+        looped(120),
+        looped(1, "--events", "1", "--clients", "8"),
+        looped(1000, "--events", "1000", "--clients", "8"),
         scripted(RETRIED),
         scripted(REFUSED),
         scripted(TURNED),
@@ -358,7 +399,7 @@ def answers_at_once(program):
 def main():
     program = pathlib.Path(sys.argv[1] if len(sys.argv) > 1 else FED / "out" / "fed").resolve()
     passed = [(f"fed {words}, given {given[:200]!r}", prints(program, words, given, *want)) for words, given, *want in cases()]
-    passed += [(f"fed {words} > /dev/full", output_fails(program, words)) for words in (["--help"], ["--version"], [], ["sim"])]
+    passed += [(f"fed {words} > /dev/full", output_fails(program, words)) for words in (["--help"], ["--version"], [], ["sim"], ["loop"])]
     passed += [(f"fed {words} < /", input_fails(program, words)) for words in ([], ["sim"])]
     passed += [("answers before the next line", answers_at_once(program))]
     failed = [name for name, good in passed if not good]

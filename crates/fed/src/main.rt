@@ -1,20 +1,30 @@
-//! The program `fed`: the inbox of a Matrix server, over lines of transactions, and servers that send each other events, by a script.
+//! The program `fed`: the inbox of a Matrix server, over lines of transactions; servers that send each other events, by a script; and two servers
+//! with many threads, over sockets.
 #![tactic(auto)]
 
 use anyhow::Result;
 use clap::error::ErrorKind;
-use clap::{Arg, ArgMatches, Command};
+use clap::{Arg, ArgMatches, Command, value_parser};
 use fed_app::{InboxSetup, RunFault, SetupFault, SimRunFault, inbox_run, sim_run};
+use fed_loop::{Load, LoopFault, MAX_CLIENTS, MAX_EVENTS, loop_run};
 use std::alloc::{AllocError, AllocFailed, Global};
 use std::fmt::Display;
 use std::io;
+use std::net::{Net, TcpListener, TcpStream};
 use std::process::ExitCode;
+use std::sync::Wait;
+use std::thread::Threads;
+use std::time::Clock;
 
 const NAME: &str = "b.example";
 
 const SERVERS: &str = "a.example";
 
 const ROOM: &str = "!r:a.example";
+
+const EVENTS: &str = "120";
+
+const CLIENTS: &str = "3";
 
 const VERSION: &str = "0.1.0";
 
@@ -85,6 +95,16 @@ No signature here gives security. To try it, paste
     show a b
 ";
 
+// What the two servers do.
+const LOOP: &str = "\
+The servers a.example and b.example run in one process, each with its threads, and have one room with a user of each. Clients at a.example
+send events, which go to b.example over the loopback interface, a connection for each transaction. Then three lines are printed:
+
+    sent <n>        how many events a.example offered
+    taken <n>       how many of them b.example took
+    delivered <n>   how many of them count as delivered at a.example
+";
+
 // Why there is nothing more to answer.
 #[derive(Drop)]
 enum Stop {
@@ -97,6 +117,8 @@ enum Stop {
     Fault(RunFault),
     /// A script was not run.
     NotRun(SimRunFault),
+    /// The two servers did not run to their end.
+    Ended(LoopFault),
 }
 
 impl From<clap::Error> for Stop {
@@ -141,8 +163,25 @@ impl From<SimRunFault> for Stop {
     }
 }
 
+impl From<LoopFault> for Stop {
+    fn from(fault: LoopFault) -> Stop {
+        Stop::Ended(fault)
+    }
+}
+
+impl From<io::Error> for Stop {
+    fn from(error: io::Error) -> Stop {
+        Stop::Fault(RunFault::from(error))
+    }
+}
+
 fn main(rt: HostRuntime) -> Result<ExitCode> {
-    match run(&rt) {
+    let ended = match run(&rt) {
+        Ok(Some(load)) => run_loop(&rt, rt.alloc(), load),
+        Ok(None) => Ok(()),
+        Err(stop) => Err(stop),
+    };
+    match ended {
         Ok(()) => Ok(ExitCode::SUCCESS),
         Err(Stop::CommandLine(error)) => match error.print(&rt) {
             Ok(()) => Ok(ExitCode::from(if error.use_stderr() { 2 } else { 0 })),
@@ -158,6 +197,7 @@ fn main(rt: HostRuntime) -> Result<ExitCode> {
         }
         Err(Stop::Fault(fault)) => end_by(&rt, fault),
         Err(Stop::NotRun(fault)) => end_by(&rt, fault),
+        Err(Stop::Ended(fault)) => end_by(&rt, fault),
     }
 }
 
@@ -167,22 +207,40 @@ fn end_by(rt: &HostRuntime, fault: impl Display + Drop) -> Result<ExitCode> {
     Ok(ExitCode::from(1))
 }
 
-fn run(rt: &HostRuntime) -> Result<(), Stop> {
+// Does what the words ask for, and tells how much two servers are to do where they ask for these.
+fn run(rt: &HostRuntime) -> Result<Option<Load>, Stop> {
     let alloc = rt.alloc();
     let words = words(rt)?;
     let matches = command(alloc)?.try_get_matches_from(words.as_slice())?;
-    if is_sim(&matches) {
-        sim_run(alloc, rt.stdin(), &mut rt.stdout())?;
-        return Ok(());
+    match matches.subcommand() {
+        Some(("sim", _)) => sim_run(alloc, rt.stdin(), &mut rt.stdout())?,
+        Some(("loop", words)) => return Ok(Some(load_of(words)?)),
+        _ => {
+            let setup = setup_of(alloc, &matches)?;
+            inbox_run(alloc, rt.stdin(), &mut rt.stdout(), setup)?;
+        }
     }
-    let setup = setup_of(alloc, &matches)?;
-    inbox_run(alloc, rt.stdin(), &mut rt.stdout(), setup)?;
-    Ok(())
+    Ok(None)
 }
 
-// Whether the words ask for a script to be run.
-fn is_sim(matches: &ArgMatches<'_>) -> bool {
-    matches.subcommand().is_some_and(|(name, _)| name == "sim")
+// How much two servers are to do.
+fn load_of(words: &ArgMatches<'_>) -> Result<Load, Stop> {
+    let events = words.get_one::<u64>("events").unwrap_or(0);
+    let clients = words.get_one::<u64>("clients").unwrap_or(0);
+    match Load::new(events, clients) {
+        Some(load) => Ok(load),
+        None => Err(Stop::Ended(LoopFault::BadSetup)),
+    }
+}
+
+// Runs two servers, and prints what comes of it.
+fn run_loop<R>(rt: &R, alloc: Global, load: Load) -> Result<(), Stop>
+where
+    R: Threads + Wait + Clock + Print + Net<Stream = TcpStream, Listener = TcpListener> + Sync,
+{
+    let counts = loop_run(rt, alloc, load)?;
+    print!(rt; "{counts}")?;
+    Ok(())
 }
 
 // The words of the command line.
@@ -228,7 +286,28 @@ fn command<'a>(alloc: Global) -> Result<Command<'a>, AllocError> {
         .after_help(INPUT)
         .version(VERSION)
         .subcommand(inbox)?
-        .subcommand(sim)
+        .subcommand(sim)?
+        .subcommand(loop_command(alloc)?)
+}
+
+fn loop_command<'a>(alloc: Global) -> Result<Command<'a>, AllocError> {
+    let events = Arg::new(alloc, "events")
+        .long("events")
+        .value_name("N")
+        .value_parser(value_parser!(u64).range(1..=MAX_EVENTS as i64))
+        .default_value(EVENTS)
+        .help("How many events are sent, 1 to 1,000");
+    let clients = Arg::new(alloc, "clients")
+        .long("clients")
+        .value_name("N")
+        .value_parser(value_parser!(u64).range(1..=MAX_CLIENTS as i64))
+        .default_value(CLIENTS)
+        .help("How many clients send them, 1 to 8");
+    Command::new(alloc, "loop")
+        .about("Runs two servers that send and serve over sockets")
+        .after_help(LOOP)
+        .arg(events)?
+        .arg(clients)
 }
 
 // The setup that the words ask for.

@@ -1,0 +1,32 @@
+use mathlib.Core.List.{[], ◌∷◌}
+use denote.Exit.{no}
+use denote.Param.{param}
+use denote.Param.Send.{shr_send, mut_send}
+use denote.Ref.{ShrRef, MutRef}
+use Rattle.std.specs.contracts.alloc.Global as global_type
+use Rattle.std.proofs.alloc.Global.TheSendSync as global
+use Rattle.fed_keys.specs.contracts.stand_in.StandIn as stand_in_type
+use Rattle.fed_keys.specs.contracts.stand_in.StandInKeys.TheImpl as signs
+use Rattle.fed_keys.proofs.stand_in.StandIn.TheSendSync as stand_in
+use Rattle.fed_hub.specs.contracts.hub.Hub as hub
+use Rattle.fed_hub.proofs.Crossing.{captures_send, hub_sync}
+use Rattle.fed_hub_rooms.specs.contracts.room_token.RoomToken as room_type
+use Rattle.fed_hub_rooms.proofs.Crossing.{room_token_send}
+use Rattle.fed_embedding.proofs.threads.store_and_send.Goals as goal
+
+pub join-sent-requires-send-F : goal.join-sent-requires-send-F
+join-sent-requires-send-F g c κs within =
+    let N = param 0 g.row.N in
+    let R = param 1 g.row.R in
+    let Hub = hub.the_row N stand_in_type.the_row g.N.Naming g.N.ServingNaming signs.ghosts in
+    let Room = room_type.the_row N g.N.ServingNaming in
+    captures_send 1 _ no _ (ShrRef _ _ R ∷ ShrRef _ _ global_type.the_row ∷ ShrRef _ _ Hub ∷ MutRef _ _ Room ∷ []) (
+      shr_send _ _ R c.type_bounds.sync-R,
+      (
+        shr_send _ _ global_type.the_row global.the_sync,
+        (
+          shr_send _ _ Hub (hub_sync N stand_in_type.the_row g.N.Naming g.N.ServingNaming signs.ghosts stand_in.the_sync),
+          (mut_send _ _ Room (room_token_send N g.N.ServingNaming), tt),
+        ),
+      ),
+    )

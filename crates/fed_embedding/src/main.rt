@@ -1,0 +1,73 @@
+//! The program `fed_embedding`: a server with its threads, as who writes one puts it together (docs/EMBEDDING.md). It is b.example, and has a room
+//! of @u:a.example and @v:b.example.
+//!
+//!     fed_embedding [ADDRESS]
+//!
+//! It serves at an address of the loopback interface, which it names on standard error. Each line of its standard input is the content of a
+//! message, an object of JSON, which goes to a.example at the address that is given. When its input ends it ends too, and prints how many
+//! events it took and sent, and that it finished. Its keys are the stand-in, which gives no security.
+//!
+//! - `setup`: what the server is made of
+//! - `server`: the server, from its hub to its end
+//! - `threads`: what each of its threads does
+//! - `door`: what all of them know
+//! - `stop`: why it ends early
+#![tactic(auto)]
+
+mod door;
+mod server;
+mod setup;
+mod stop;
+mod threads;
+
+use std::alloc::Global;
+use std::env::Env;
+use std::io::{self, BufRead};
+use std::net::{Net, SocketAddr, TcpListener, TcpStream};
+use std::process::ExitCode;
+use std::sync::Wait;
+use std::thread::Threads;
+use std::time::Clock;
+use stop::Stop;
+
+fn main(rt: HostRuntime) -> io::Result<ExitCode> {
+    match run(&rt, rt.alloc(), &mut rt.stdin().lock()) {
+        Ok(()) => Ok(ExitCode::SUCCESS),
+        Err(stop) => {
+            eprintln!(rt; "fed_embedding: {stop}")?;
+            Ok(ExitCode::from(1))
+        }
+    }
+}
+
+fn run<R, I>(rt: &R, alloc: Global, input: &mut I) -> Result<(), Stop>
+where
+    R: Threads
+        + Wait
+        + Clock
+        + Env
+        + Print
+        + Eprint
+        + AllocGlobal
+        + Net<Stream = TcpStream, Listener = TcpListener>
+        + Sync,
+    I: BufRead + Send,
+{
+    let peer = peer(rt)?;
+    let counts = server::run(rt, alloc, peer, input)?;
+    let (took, sent) = (counts.took, counts.sent);
+    println!(rt; "took {took}\nsent {sent}\nfinished")?;
+    Ok(())
+}
+
+// The address of a.example, where one is given.
+fn peer<R: Env + AllocGlobal>(rt: &R) -> Result<Option<SocketAddr>, Stop> {
+    let mut words = std::env::args(rt)?.skip(1);
+    match words.next() {
+        Some(word) => match word.parse::<SocketAddr>() {
+            Ok(address) => Ok(Some(address)),
+            Err(_) => Err(Stop::BadAddress),
+        },
+        None => Ok(None),
+    }
+}

@@ -1,0 +1,93 @@
+// What the server is made of.
+ghost use Rattle.std.specs.Prelude.{◌≡◌, ◌≤◌, Some, length, IfSome};
+ghost use Rattle.fed_dest.specs.List.{place_of};
+
+use fed_dest::{List, ServerIndex, ServerName};
+use fed_event::StandIn;
+use fed_hub::{KeptRoom, Setup};
+use fed_json::Json;
+use fed_room::started;
+use fed_room_contract::Draft;
+use std::alloc::Global;
+
+/// The other server, and this one; their places in the list are those of their names.
+pub(crate) const PEER: &str = "a.example";
+
+const OWN: &str = "b.example";
+
+const ROOM: &str = "!r:a.example";
+
+const USERS: [&str; 2] = ["@u:a.example", "@v:b.example"];
+
+/// The server b.example with its room; its keys are the stand-in, in place of a caller's own `Keys`.
+pub(crate) fn setup(alloc: Global, epoch: u64) -> Option<Setup<StandIn>>
+    ensures each { IfSome result (λ setup. length setup.list ≡ 2) }
+    ensures own { IfSome result (λ setup. place_of setup.list setup.own ≡ Some 1) }
+{
+    let list = servers(alloc)?;
+    let own = ServerName::read(alloc, OWN).ok()?;
+    if list.find(own.as_str()) != Some(ServerIndex::new(1)) {
+        return None;
+    }
+    Some(Setup {
+        own,
+        list,
+        rooms: rooms(alloc)?,
+        keys: StandIn::new(text(alloc, OWN)?),
+        epoch,
+    })
+}
+
+// The list of both servers.
+fn servers(alloc: Global) -> Option<List>
+    ensures { IfSome result (λ list. length list ≡ 2) }
+{
+    let mut names = Vec::new(alloc);
+    for name in [PEER, OWN] {
+        names.push(ServerName::read(alloc, name).ok()?).ok()?;
+    }
+    let list = List::new(names).ok()?;
+    if list.len() != 2 {
+        return None;
+    }
+    Some(list)
+}
+
+// The room, which begins with events that both servers have signed.
+fn rooms(alloc: Global) -> Option<Vec<KeptRoom>> {
+    let mut keys = Vec::new(alloc);
+    for name in [PEER, OWN] {
+        keys.push(StandIn::new(text(alloc, name)?)).ok()?;
+    }
+    let users = texts(alloc, &USERS)?;
+    let events = started(alloc, ROOM, &users, &keys).ok()?;
+    let mut rooms = Vec::new(alloc);
+    rooms.push(KeptRoom::start(alloc, OWN, events).ok()?).ok()?;
+    Some(rooms)
+}
+
+fn text(alloc: Global, text: &str) -> Option<String> {
+    String::from_str(alloc, text).ok()
+}
+
+fn texts(alloc: Global, texts: &[&str]) -> Option<Vec<String>> {
+    let mut copies = Vec::with_capacity(alloc, texts.len()).ok()?;
+    for one in texts {
+        copies.push(text(alloc, *one)?).ok()?;
+    }
+    Some(copies)
+}
+
+/// A message of the server's user, with this content.
+pub(crate) fn draft(alloc: Global, content: Json, at_ms: u64) -> Option<Draft>
+    requires { at_ms ≤ 9007199254740991 }
+{
+    Some(Draft {
+        room: text(alloc, ROOM)?,
+        sender: text(alloc, USERS[1])?,
+        kind: text(alloc, "m.room.message")?,
+        state_key: None,
+        content,
+        at_ms,
+    })
+}

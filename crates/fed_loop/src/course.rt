@@ -1,0 +1,12 @@
+// What all threads of a run know.
+use crate::door::Door;
+use crate::faults::FirstFault;
+use crate::load::Load;
+
+/// What all threads of a run know: how much is sent, where the other server serves, and the first fault that one of them met.
+#[derive(Drop)]
+pub(crate) struct Course {
+    pub(crate) load: Load,
+    pub(crate) door: Door,
+    pub(crate) faults: FirstFault,
+}

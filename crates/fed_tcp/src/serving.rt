@@ -1,0 +1,153 @@
+// One request after another, off the connections that a listener accepts.
+ghost use Rattle.std.specs.Prelude.{◌≡◌, ◌≤◌, ◌<◌, ◌+◌, ◌^◌, ℕ, List, IfOk, IfErr, IfSome, IfNone};
+ghost use Rattle.fed_hub_serving.specs.Answered.{AnsweredValue};
+ghost use Rattle.fed_tcp.specs.Serving.{IsServedOff, ServesInTurn, replies_of};
+
+use crate::patience::make_impatient;
+use fed_event::Keys;
+use fed_hub::{Hub, Naming, ServeToken, Served, ServingNaming};
+use std::alloc::Global;
+use std::io::{self, ErrorKind, Read};
+use std::net::{Shutdown, SocketAddr, TcpListener, TcpStream};
+use std::sync::Wait;
+use std::sync::atomic::{AtomicBool, Ordering};
+use std::time::Duration;
+
+/// How many seconds a client is waited for that may still send what nobody reads, and in how many pieces of how many bytes that is thrown away.
+const LINGER: u64 = 1;
+
+const PIECES: usize = 256;
+
+const PIECE: usize = 4096;
+
+/// Answers one request after another, each off a connection of its own, until it is told to stop: the flag is looked at whenever a connection
+/// was accepted, so whoever sets it makes one more, which is not answered. It tells how many replies were written whole. A client that sends
+/// nothing is waited for `PATIENCE` seconds, and a connection that fails ends itself alone.
+///
+/// # Errors
+///
+/// That of the listener, where it accepts no connection for another reason than the connection itself.
+pub fn serve<N: Naming + ServingNaming, K: Keys + Drop, R: Wait>(
+    rt: &R,
+    alloc: Global,
+    hub: &Hub<N, K>,
+    token: &mut ServeToken<N>,
+    listener: &TcpListener,
+    stops: &AtomicBool,
+) -> io::Result<u64>
+    ensures replies { IfOk result (λ replies. ServesInTurn N.checks N.known N.beginning token.old token.new replies) }
+    ensures until_then { IfErr result (λ error. (replies : ℕ) × ServesInTurn N.checks N.known N.beginning token.old token.new replies) }
+{
+    let mut replies = 0;
+    for _ in 0..u64::MAX {
+        let accepted = listener.accept();
+        if stops.load(Ordering::SeqCst) {
+            return Ok(replies);
+        }
+        replies = serve_accepted(rt, alloc, hub, token, accepted, replies)?;
+    }
+    Ok(replies)
+}
+
+// Serves a connection, where one was accepted, and tells how many replies were written whole by then.
+fn serve_accepted<N: Naming + ServingNaming, K: Keys + Drop, R: Wait>(
+    rt: &R,
+    alloc: Global,
+    hub: &Hub<N, K>,
+    token: &mut ServeToken<N>,
+    accepted: io::Result<(TcpStream, SocketAddr)>,
+    replies: u64,
+) -> io::Result<u64>
+    requires { replies + 1 < 2 ^ 64 }
+    ensures turn { IfOk result (λ count. (first : List AnsweredValue) → ServesInTurn N.checks N.known N.beginning first token.old replies → ServesInTurn N.checks N.known N.beginning first token.new count) }
+    ensures one { IfOk result (λ count. count ≤ replies + 1) }
+    ensures none { IfErr result (λ error. token.new ≡ token.old) }
+{
+    match accepted {
+        Ok((stream, _)) => Ok(serve_next(rt, alloc, hub, token, &stream, replies)),
+        Err(error) => match error.kind() {
+            ErrorKind::ConnectionAborted => Ok(replies),
+            _ => Err(error),
+        },
+    }
+}
+
+// Serves one connection more, and tells how many replies were written whole by then.
+fn serve_next<N: Naming + ServingNaming, K: Keys + Drop, R: Wait>(
+    rt: &R,
+    alloc: Global,
+    hub: &Hub<N, K>,
+    token: &mut ServeToken<N>,
+    stream: &TcpStream,
+    replies: u64,
+) -> u64
+    requires { replies + 1 < 2 ^ 64 }
+    ensures turn { (first : List AnsweredValue) → ServesInTurn N.checks N.known N.beginning first token.old replies → ServesInTurn N.checks N.known N.beginning first token.new result }
+    ensures one { result ≤ replies + 1 }
+{
+    match answer(rt, alloc, hub, token, stream) {
+        Some(told) => replies + whole_replies(told),
+        None => replies,
+    }
+}
+
+// How many replies were written whole to a client where this became of what it sent.
+fn whole_replies(told: Served) -> u64
+    ensures replies { result ≡ replies_of told }
+    ensures one { result ≤ 1 }
+{
+    match told {
+        Served::Answered(_) => 1,
+        Served::ReadFault | Served::EndedEarly | Served::WriteFault => 0,
+    }
+}
+
+// Answers a request off a connection; `None` where its socket is not as it should be.
+fn answer<N: Naming + ServingNaming, K: Keys + Drop, R: Wait>(
+    rt: &R,
+    alloc: Global,
+    hub: &Hub<N, K>,
+    token: &mut ServeToken<N>,
+    stream: &TcpStream,
+) -> Option<Served>
+    ensures served { IfSome result (λ told. IsServedOff N.checks N.known N.beginning token.old token.new told) }
+    ensures none { IfNone result (token.new ≡ token.old) }
+{
+    make_impatient(stream).ok()?;
+    let served = answer_over(rt, alloc, hub, token, stream);
+    if matches!(served, Served::Answered(400 | 413 | 500)) {
+        linger(stream);
+    }
+    Some(served)
+}
+
+// Answers a request off a connection, which waits no longer than is right.
+fn answer_over<N: Naming + ServingNaming, K: Keys + Drop, R: Wait>(
+    rt: &R,
+    alloc: Global,
+    hub: &Hub<N, K>,
+    token: &mut ServeToken<N>,
+    stream: &TcpStream,
+) -> Served
+    ensures { IsServedOff N.checks N.known N.beginning token.old token.new result }
+{
+    let (mut reader, mut writer) = (stream, stream);
+    hub.serve_one(rt, alloc, token, &mut reader, &mut writer)
+}
+
+// Waits for a client to end its side, where its request may not have been read to its end: the reply could be lost else (RFC 9112, section
+// 9.6).
+fn linger(stream: &TcpStream) {
+    let wait = Some(Duration::from_secs(LINGER));
+    if stream.shutdown(Shutdown::Write).is_err() || stream.set_read_timeout(wait).is_err() {
+        return;
+    }
+    let mut reader = stream;
+    let mut piece = [0u8; PIECE];
+    for _ in 0..PIECES {
+        match reader.read(&mut piece) {
+            Ok(0) | Err(_) => return,
+            Ok(_) => {}
+        }
+    }
+}
