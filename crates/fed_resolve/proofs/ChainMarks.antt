@@ -135,6 +135,11 @@ module _ (events : List Stored) (graph : IsGraph events) where
   pub chain-to_test : (p q : ℕ) → IsInChain events p q → is_in_chain events p q ≡ true
   chain-to_test p q chain = let within = starts_within p q chain in to_test (length events) p q (omega arith) chain
 
+  -- what is in a chain stands before
+  chain_below : (p q : ℕ) → IsInChain events p q → q < p
+  chain_below _ _ (named p q h) = (auth_below p q h).0
+  chain_below _ _ (further p a q h chain) = let rest = chain_below a q chain in let below = auth_below p a h in omega (arith, below.0)
+
   extended : (r p q : ℕ) → IsInChain events r p → is_auth events p q ≡ true → IsInChain events r q
   extended _ _ q (named r p h) last = further r p q h (named p q last)
   extended _ _ q (further r a p h chain) last = further r a q h (extended a p q chain last)
@@ -149,8 +154,8 @@ module _ (events : List Stored) (graph : IsGraph events) where
       by (inr past) = let none : false ≡ true = sym (get_or_past marks p false past) ∙ h in absurd (cc)
 
   -- at the start, past all places
-  pub closed-start : (marks : List Bool) → length marks ≡ length events → AreClosedFrom events (length events) marks marks
-  closed-start marks long = record {
+  pub closed-start : (from : ℕ) (marks : List Bool) → length events ≤ from → length marks ≡ length events → AreClosedFrom events from marks marks
+  closed-start from marks past_all long = record {
     long = long;
     kept = λ p h. h;
     sound = λ q h. inl h;
@@ -205,9 +210,27 @@ module _ (events : List Stored) (graph : IsGraph events) where
         closed = λ r auth past m h. closed_now r auth past m h (cases_eq p r);
       }
 
+  -- a place that is not marked
+  pub closed-skip : (from p : ℕ) → from ≤ suc p → (first before : List Bool) → AreClosedFrom events from first before → (after : List Bool) → is_marked before p ≡ false → length before ≡ length events
+      → AreMarks (length events) (is_marked before) after → AreClosedFrom events p first after
+  closed-skip from p near first before closed after unmarked long same = record {
+    long = same.long;
+    kept = λ q h. mark q (cases_lt q (length events)) ∙ closed.kept q h;
+    sound = λ q h. closed.sound q (sym (mark q (cases_lt q (length events))) ∙ h);
+    closed = λ r auth past m h. by r auth past (sym (mark r (cases_lt r (length events))) ∙ m) h (cases_eq p r);
+  }
+    where
+      mark : (q : ℕ) → (q < length events) ⊎ (length events ≤ q) → is_marked after q ≡ is_marked before q
+      mark q (inl below) = same.each q below
+      mark q (inr past) = let long_too = same.long in get_or_past after q false (omega arith) ∙ sym (get_or_past before q false (omega arith))
+
+      by : (r auth : ℕ) → p ≤ r → is_marked before r ≡ true → is_auth events r auth ≡ true → (p ≡ r) ⊎ (p ≡ r → ⊥) → is_marked after auth ≡ true
+      by r auth past m h (inl e) = absurd (let no : false ≡ true = sym unmarked ∙ ap (is_marked before) e ∙ m in cc)
+      by r auth past m h (inr n) = mark auth (cases_lt auth (length events)) ∙ closed.closed r auth (omega (arith, n)) m h
+
   -- ---- the chains of some events
 
-  module _ (places : List ℕ) (none first after : List Bool) (unmarked : (q : ℕ) → is_marked none q ≡ false) (auths : AreMarks (length events) (or_auths events places none) first) (closed : AreClosedFrom events zero first after) where
+  module _ (from : ℕ) (places : List ℕ) (none first after : List Bool) (unmarked : (q : ℕ) → is_marked none q ≡ false) (auths : AreMarks (length events) (or_auths events places none) first) (closed : AreClosedFrom events from first after) where
     first_is : (q : ℕ) → q < length events → is_marked first q ≡ list_any (λ p. is_auth events p q) places
     first_is q below = auths.each q below ∙ ap (λ b. b || list_any (λ p. is_auth events p q) places) (unmarked q)
 
@@ -227,15 +250,22 @@ module _ (events : List Stored) (graph : IsGraph events) where
         found.1.1 (λ p. is_in_chain events p q) (chain-to_test found.0 q (further found.0 r q found.1.0 chain))
 
     -- a chain from a place whose auth events are marked
-    carried : (p q : ℕ) → IsInChain events p q → ((a : ℕ) → is_auth events p a ≡ true → is_marked after a ≡ true) → is_marked after q ≡ true
-    carried _ _ (named p q h) all = all q h
-    carried _ _ (further p a q h chain) all = carried a q chain (λ b is_named. closed.closed a b (omega arith) (all a h) is_named)
+    carried : (p q : ℕ) → from ≤ suc q → IsInChain events p q → ((a : ℕ) → is_auth events p a ≡ true → is_marked after a ≡ true) → is_marked after q ≡ true
+    carried _ _ near (named p q h) all = all q h
+    carried _ _ near (further p a q h chain) all =
+        let below = chain_below a q chain in
+        carried a q near chain (λ b is_named. closed.closed a b (omega arith) (all a h) is_named)
 
-    is_whole : (q : ℕ) → is_in_chains events places q ≡ true → is_marked after q ≡ true
-    is_whole q h =
+    is_whole : (q : ℕ) → from ≤ suc q → is_in_chains events places q ≡ true → is_marked after q ≡ true
+    is_whole q near h =
         let found = any_found (λ p. is_in_chain events p q) places h in
-        carried found.0 q (chain-from_test found.0 q found.1.0)
+        carried found.0 q near (chain-from_test found.0 q found.1.0)
         (λ a is_named. let below = auth_below found.0 a is_named in closed.kept a (first_is a (omega arith) ∙ found.1.1 (λ p. is_auth events p a) is_named))
 
-    pub chains_marked : AreMarks (length events) (is_in_chains events places) after
-    chains_marked = record { long = closed.long; each = λ q below. same_by _ _ (λ h. is_sound q (closed.sound q h)) (is_whole q) }
+    -- the marks of the places that the walk came to, and of the one before
+    pub chains_marked_from : (q : ℕ) → from ≤ suc q → is_marked after q ≡ is_in_chains events places q
+    chains_marked_from q near = same_by _ _ (λ h. is_sound q (closed.sound q h)) (is_whole q near)
+
+  pub chains_marked : (places : List ℕ) (none first after : List Bool) → ((q : ℕ) → is_marked none q ≡ false) → AreMarks (length events) (or_auths events places none) first → AreClosedFrom events zero first after
+      → AreMarks (length events) (is_in_chains events places) after
+  chains_marked places none first after unmarked auths closed = record { long = closed.long; each = λ q below. chains_marked_from zero places none first after unmarked auths closed q (omega arith) }

@@ -1,5 +1,5 @@
 -- What states disagree on.
-use Rattle.std.proofs.Common.{◌≡◌, ℕ, List, [], ◌∷◌, ◌+◌, ◌<◌, Bool, true, false, not, ◌&&◌, ◌||◌, cond, T, take, length, get_or, eqb, Option, None, Some, bytes_eq, refl, sym, ap, ◌∙◌}
+use Rattle.std.proofs.Common.{◌≡◌, ℕ, List, [], ◌∷◌, ◌+◌, ◌<◌, Bool, true, false, not, ◌&&◌, ◌||◌, cond, T, take, length, get_or, eqb, Option, None, Some, bytes_eq, refl, sym, ap, ◌∙◌, arith}
 use Rattle.std.specs.List.{list_any, list_all, filter_map, cons_option, AllByRecursion}
 use Rattle.std.specs.Option.{option_eq}
 use Rattle.std.specs.Ordering.{eq_by_cmp, is_eq}
@@ -13,10 +13,12 @@ use Rattle.fed_room_contract.specs.State.{StateKey, StateMap, key_cmp}
 use Rattle.fed_room_contract.proofs.Filled.{first, second, tied, absent}
 use Rattle.fed_room_contract.proofs.States.{key_cmp_total}
 use Rattle.fed_resolve.specs.Chain.{place_of, is_entry_at}
-use Rattle.fed_resolve.specs.Conflict.{agree_with}
+use Rattle.fed_resolve.specs.Conflict.{agree_with, unconflicted}
 use Rattle.fed_resolve.specs.ChainParts.{or_among}
 use Rattle.fed_resolve.specs.Marks.{AreMarks}
-use Rattle.fed_resolve.specs.ConflictParts.{has_id_at, disputed_place, is_disputed_in}
+use Rattle.fed_resolve.specs.ConflictParts.{has_id_at, disputed_place, disputed_beside, is_disputed_in}
+use Rattle.fed_auth.proofs.AuthStates.{same_bytes}
+use Rattle.fed_resolve.proofs.Unconflicteds.{entry-unconflicted}
 
 -- ---- a state has each of its entries
 
@@ -91,3 +93,43 @@ disputed-more events states i state within here es whole before new are more = r
       ∙ ap (λ b. is_disputed_in events states (take i states) q || b) (disputed-state events states state q ∙ ap (λ s. list_any (disputed events states s q) (finite.entries s)) here)
       ∙ sym (list_any_more (λ s. list_any (disputed events states s q) (finite.entries s)) states i state within);
 }
+
+-- ---- what the unconflicted state has not, not all states have
+
+and_none : (b : Bool) → (b && false) ≡ false
+and_none true = refl
+and_none false = refl
+
+and_all : (b : Bool) → (b && true) ≡ b
+and_all true = refl
+and_all false = refl
+
+shown_id : (b : Bool) (x id : List ℕ) → option_eq bytes_eq (cond b (Some x) None) (Some id) ≡ (b && bytes_eq x id)
+shown_id true x id = refl
+shown_id false x id = refl
+
+shown_none : (b : Bool) (id : List ℕ) → option_eq bytes_eq (cond b None None) (Some id) ≡ false
+shown_none true id = refl
+shown_none false id = refl
+
+module _ (first : StateMap) (others : List StateMap) (kind key id : List ℕ) where
+  abbrev own : StateKey
+  own = (kind, key)
+
+  abbrev all_have : Option (List ℕ) → Bool
+  all_have o = list_all (λ other. option_eq bytes_eq (finite.get other own) o) others
+
+  agreed_first : (o : Option (List ℕ)) → option_eq bytes_eq (cond (all_have o) o None) (Some id) ≡ (option_eq bytes_eq o (Some id) && all_have (Some id))
+  agreed_first None = shown_none (all_have None) id
+  agreed_first (Some x) = shown_id (all_have (Some x)) x id ∙ by (bytes_eq x id) refl
+    where
+      by : (b : Bool) → bytes_eq x id ≡ b → (all_have (Some x) && b) ≡ (b && all_have (Some id))
+      by true t = and_all (all_have (Some x)) ∙ ap (λ y. all_have (Some y)) (same_bytes x id t)
+      by false t = and_none (all_have (Some x))
+
+  agreed-id : has_id_at kind key id (unconflicted (first ∷ others)) ≡ list_all (has_id_at kind key id) (first ∷ others)
+  agreed-id = ap (λ o. option_eq bytes_eq o (Some id)) (entry-unconflicted first others own) ∙ agreed_first (finite.get first own)
+
+pub disputed-beside : (events : List Stored) (states : List StateMap) → 0 < length states → disputed_beside events (unconflicted states) ≡ disputed_place events states
+disputed-beside events [] some = absurd (omega arith)
+disputed-beside events (first ∷ others) some = λ i entry. cond (agreed-id first others entry.0.0 entry.0.1 entry.1 i) None (place_of events entry.1)

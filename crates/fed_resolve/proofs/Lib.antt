@@ -23,3 +23,6 @@ pub mod Auths
 pub mod Mainlines
 pub mod Reached
 pub mod Orderings
+pub mod MaskWords
+pub mod EqualStates
+pub mod Turns

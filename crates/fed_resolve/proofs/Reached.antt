@@ -28,7 +28,7 @@ module _ (events : List Stored) (graph : IsGraph events) where
   levels_below : (place levels : ℕ) → levels_auth events place ≡ Some levels → (levels < place) × (place < length events)
   levels_below place levels e = auth_below events graph place levels (found_among (is_levels_at events) (auths_at events place) levels e)
 
-  auth-levels_below : (place : ℕ) (o : Option ℕ) → levels_auth events place ≡ o → IfSome o (λ levels. levels < place)
+  pub auth-levels_below : (place : ℕ) (o : Option ℕ) → levels_auth events place ≡ o → IfSome o (λ levels. levels < place)
   auth-levels_below place None e = tt
   auth-levels_below place (Some levels) e = (levels_below place levels e).0
 

@@ -27,7 +27,7 @@ turned true b = refl
 turned false b = refl
 
 module _ {X : Type 0} where
-  contained : (f : X → Bool) (xs : List X) → list_any f xs ≡ true → (x : X) × (Contains xs x × (f x ≡ true))
+  pub contained : (f : X → Bool) (xs : List X) → list_any f xs ≡ true → (x : X) × (Contains xs x × (f x ≡ true))
   contained f [] h = absurd (true≢false (sym h))
   contained f (x ∷ xs) h = by (contained f xs) (or_cases (f x) (list_any f xs) h)
     where
@@ -45,12 +45,12 @@ module _ {X : Type 0} where
   all_by_any f [] = refl
   all_by_any f (x ∷ xs) = ap (λ b. f x && b) (all_by_any f xs) ∙ turned (f x) (list_any (λ y. not (f y)) xs)
 
-  all_from : (f : X → Bool) (xs : List X) → ((x : X) → Contains xs x → f x ≡ true) → list_all f xs ≡ true
+  pub all_from : (f : X → Bool) (xs : List X) → ((x : X) → Contains xs x → f x ≡ true) → list_all f xs ≡ true
   all_from f xs each =
       true_from_ne_false (list_all f xs)
       (λ h. let found = contained (λ x. not (f x)) xs (not-false _ (sym (all_by_any f xs) ∙ h)) in absurd (true≢false (sym (each found.0 found.1.0) ∙ not-true (f found.0) found.1.1)))
 
-  all_at : (f : X → Bool) (xs : List X) (x : X) → list_all f xs ≡ true → Contains xs x → f x ≡ true
+  pub all_at : (f : X → Bool) (xs : List X) (x : X) → list_all f xs ≡ true → Contains xs x → f x ≡ true
   all_at f xs x all there =
       true_from_ne_false (f x) (λ h. absurd (true≢false (sym all ∙ all_by_any f xs ∙ ap not (any_of (λ y. not (f y)) xs x there (ap not h)))))
 

@@ -1,6 +1,6 @@
 -- What states agree on, for the clauses of private functions.
 use Rattle.std.specs.Prelude.{◌≡◌, ℕ, List, Bool, not, ◌&&◌, Option, None, Some, bytes_eq, if◌then◌else◌}
-use Rattle.std.specs.List.{list_any, list_all}
+use Rattle.std.specs.List.{list_any, list_all, filter_map}
 use Rattle.std.specs.Option.{option_eq}
 use Rattle.std.specs.FinMap as finite
 use Rattle.std.specs.Ordering.{eq_by_cmp}
@@ -20,6 +20,10 @@ pub record AreKept (whole : StateMap) (entries : List (StateKey × List ℕ)) (s
 abbrev pub place_of_entry : List Stored → StateKey × List ℕ → Option ℕ
 place_of_entry events entry = place_of events entry.1
 
+-- the places of the events of a state
+abbrev pub places_of_state : List Stored → StateMap → List ℕ
+places_of_state events state = filter_map (place_of_entry events) (finite.entries state)
+
 -- this id is at a type and state key
 abbrev pub has_id_at : List ℕ → List ℕ → List ℕ → StateMap → Bool
 has_id_at kind key id state = option_eq bytes_eq (finite.get state (kind, key)) (Some id)
@@ -27,6 +31,10 @@ has_id_at kind key id state = option_eq bytes_eq (finite.get state (kind, key)) 
 -- the place of the event of an entry that not all states have
 abbrev pub disputed_place : List Stored → List StateMap → StateKey × List ℕ → Option ℕ
 disputed_place events states entry = if list_all (has_id_at entry.0.0 entry.0.1 entry.1) states then None else place_of events entry.1
+
+-- the place of the event of an entry that the unconflicted state has not
+abbrev pub disputed_beside : List Stored → StateMap → StateKey × List ℕ → Option ℕ
+disputed_beside events agreed entry = if has_id_at entry.0.0 entry.0.1 entry.1 agreed then None else place_of events entry.1
 
 -- in the full auth chain of some state, and of every state
 abbrev pub is_in_some : List Stored → List StateMap → ℕ → Bool

@@ -6,7 +6,7 @@ ghost use Rattle.fed_room_contract.specs.State.{entry_at};
 ghost use Rattle.fed_resolve.specs.Chain.{is_in_full_chain};
 ghost use Rattle.fed_resolve.specs.Marks.{AreMarks};
 ghost use Rattle.fed_resolve.specs.Conflict.{unconflicted as unconflicted_of};
-ghost use Rattle.fed_resolve.specs.ConflictParts.{AreKept, has_id_at, place_of_entry};
+ghost use Rattle.fed_resolve.specs.ConflictParts.{AreKept, has_id_at, place_of_entry, places_of_state};
 
 use crate::chain::chains;
 use fed_event::EventId;
@@ -45,7 +45,7 @@ pub fn agreed<'a>(states: &'a [State], kind: &str, state_key: &str) -> Option<&'
 }
 
 // Whether all states have this id at a type and state key.
-pub(crate) fn all_have(states: &[State], kind: &str, state_key: &str, id: &EventId) -> bool
+fn all_have(states: &[State], kind: &str, state_key: &str, id: &EventId) -> bool
     ensures { result ≡ list_all (has_id_at kind.now state_key.now id.now) states.now }
 {
     states
@@ -54,7 +54,7 @@ pub(crate) fn all_have(states: &[State], kind: &str, state_key: &str, id: &Event
 }
 
 // Whether a state has this id at a type and state key.
-fn has_id_at(state: &State, kind: &str, state_key: &str, id: &EventId) -> bool
+pub(crate) fn has_id_at(state: &State, kind: &str, state_key: &str, id: &EventId) -> bool
     ensures { result ≡ has_id_at kind.now state_key.now id.now state.now }
 {
     state.get(kind, state_key) == Some(id)
@@ -88,9 +88,21 @@ fn keep(
 pub fn full_chain(alloc: Global, graph: &Graph, state: &State) -> Result<Vec<bool>, NoMemory>
     ensures { IfOk result (λ marks. AreMarks (length graph.now.stored) (is_in_full_chain graph.now.stored state.now) marks.items) }
 {
-    let entries = state.entries(alloc)?;
-    let places = places(alloc, graph, &entries)?;
+    let places = state_places(alloc, graph, state)?;
     chains(alloc, graph, &places)
+}
+
+// The places of the events of a state.
+pub(crate) fn state_places(
+    alloc: Global,
+    graph: &Graph,
+    state: &State,
+) -> Result<Vec<usize>, NoMemory>
+    ensures within { IfOk result (λ places. All (λ place. place < length graph.now.stored) places.items) }
+    ensures places { IfOk result (λ places. places.items ≡ places_of_state graph.now.stored state.now) }
+{
+    let entries = state.entries(alloc)?;
+    places(alloc, graph, &entries)
 }
 
 // The places of the events of some entries.

@@ -4,9 +4,11 @@
 //! - `checks`: iterative auth checks
 //! - `conflict`: what states agree on, and their full auth chains
 //! - `difference`: what states disagree on: the full conflicted set
+//! - `equality`: whether states are equal
 //! - `laws`: what holds of auth chains and of all resolved states
 //! - `levels`: what the auth events of an event say of power levels
 //! - `mainline`: mainline ordering
+//! - `masks`: auth chains of several groups of events by one walk
 //! - `order`: events listed one after another
 //! - `places`: sets of places as marks, and as lists
 //! - `power`: power events, and the power events of the full conflicted set
@@ -18,9 +20,11 @@ mod chain;
 mod checks;
 mod conflict;
 mod difference;
+mod equality;
 mod laws;
 mod levels;
 mod mainline;
+mod masks;
 mod order;
 mod places;
 mod power;

@@ -1,6 +1,7 @@
 // Mainline ordering.
-ghost use Rattle.std.specs.Prelude.{◌≡◌, ◌<◌, ℕ, List, All, IfOk, IfSome, length, map};
-ghost use Rattle.fed_resolve.specs.Mainline.{mainline as mainline_of, least_of, position_of, mainline_order as mainline_order_of};
+ghost use Rattle.std.specs.Prelude.{◌≡◌, ◌<◌, ℕ, Option, All, IfOk, IfSome, length, map};
+ghost use Rattle.fed_room_contract.specs.Graph.{IsGraph};
+ghost use Rattle.fed_resolve.specs.Mainline.{mainline as mainline_of, position_of, mainline_order as mainline_order_of};
 ghost use Rattle.fed_resolve.specs.OrderParts.{candidate_place};
 ghost use Rattle.fed_resolve.specs.RankParts.{AreIndices, IsMainlineRank, IsMainlineCandidate};
 
@@ -17,8 +18,8 @@ type MainlineRank<'a> = Rank<'a, Option<Reverse<usize>>>;
 /// A set of events in the mainline order of a power levels event (room version 2, "State resolution", "Definitions"): the greater position
 /// first, of which an infinite one is the greatest, then the earlier time, then the smaller id. The mainline of the event is it, the power
 /// levels event among its auth events, and so on; without one the mainline is empty. The position of an event is the least index in the
-/// mainline that is reached from it through power levels events. It is found by one walk for each event of the set;
-/// beside this it takes time in proportion to the square of the set.
+/// mainline that is reached from it through power levels events. It is found by one walk for each event of the set, to the first event of
+/// the mainline that it meets; beside this it takes time in proportion to the square of the set.
 ///
 /// # Errors
 ///
@@ -35,7 +36,7 @@ pub fn mainline_order(
     ensures within { IfOk result (λ places. All (λ place. place < length graph.now.stored) places.items) }
 {
     let line = mainline(alloc, graph, levels)?;
-    let indices = indices(alloc, graph.len(), &line)?;
+    let indices = indices(alloc, graph.events().len(), &line)?;
     let candidates = candidates(alloc, graph, &indices, set)?;
     in_order(alloc, graph.len(), &candidates)
 }
@@ -77,10 +78,12 @@ fn candidates<'a>(
     indices: &[Option<usize>],
     set: &[usize],
 ) -> Result<Vec<Candidate<MainlineRank<'a>>>, NoMemory>
+    requires graph { IsGraph graph.now.stored }
     requires indices { length indices.now ≡ length graph.now.stored }
     requires set { All (λ place. place < length graph.now.stored) set.now }
     ensures places { IfOk result (λ candidates. map candidate_place candidates.items ≡ set.now) }
-    ensures each { IfOk result (λ candidates. (line : List ℕ) → AreIndices (length graph.now.stored) line indices.now → All (IsMainlineCandidate graph.now.stored line) candidates.items) }
+    ensures each { IfOk result (λ candidates. (levels : Option ℕ) → AreIndices (length graph.now.stored) (mainline_of graph.now.stored levels) indices.now
+        → All (IsMainlineCandidate graph.now.stored (mainline_of graph.now.stored levels)) candidates.items) }
 {
     let mut candidates = Vec::new(alloc);
     for place in set {
@@ -97,9 +100,11 @@ fn candidates<'a>(
 
 // What the order compares of the event at a place.
 fn rank<'a>(graph: &'a Graph, indices: &[Option<usize>], place: usize) -> MainlineRank<'a>
+    requires graph { IsGraph graph.now.stored }
     requires indices { length indices.now ≡ length graph.now.stored }
     requires place { place < length graph.now.stored }
-    ensures { (line : List ℕ) → AreIndices (length graph.now.stored) line indices.now → IsMainlineRank graph.now.stored line place result }
+    ensures { (levels : Option ℕ) → AreIndices (length graph.now.stored) (mainline_of graph.now.stored levels) indices.now
+        → IsMainlineRank graph.now.stored (mainline_of graph.now.stored levels) place result }
 {
     let event = graph.events()[place].event.event();
     Rank {
@@ -109,30 +114,23 @@ fn rank<'a>(graph: &'a Graph, indices: &[Option<usize>], place: usize) -> Mainli
     }
 }
 
-// The position of the event at a place: the least index that is reached from it through power levels events.
+// The position of the event at a place: the index of the first mainline event that is reached from it through power levels events. From
+// there on the walk follows the mainline, along which indices rise, so that it is the least.
 fn position(graph: &Graph, indices: &[Option<usize>], place: usize) -> Option<usize>
-    requires { length indices.now ≡ length graph.now.stored }
-    ensures { (line : List ℕ) → AreIndices (length graph.now.stored) line indices.now → result ≡ position_of graph.now.stored line place }
+    requires graph { IsGraph graph.now.stored }
+    requires indices { length indices.now ≡ length graph.now.stored }
+    ensures { (levels : Option ℕ) → AreIndices (length graph.now.stored) (mainline_of graph.now.stored levels) indices.now
+        → result ≡ position_of graph.now.stored (mainline_of graph.now.stored levels) place }
 {
-    let mut least = None;
     let mut next = levels_auth(graph, place);
     for _ in 0..graph.len() {
         let Some(reached) = next else {
             break;
         };
-        least = least_of(least, indices[reached]);
+        if indices[reached].is_some() {
+            return indices[reached];
+        }
         next = levels_auth(graph, reached);
     }
-    least
-}
-
-// The smaller of two indices, of which none is infinite.
-fn least_of(one: Option<usize>, other: Option<usize>) -> Option<usize>
-    ensures { result ≡ least_of one other }
-{
-    match (one, other) {
-        (Some(one), Some(other)) => Some(one.min(other)),
-        (None, other) => other,
-        (one, None) => one,
-    }
+    None
 }

@@ -11,7 +11,8 @@ ghost use Rattle.fed_resolve.specs.Resolution.{with_entries, levels_in, checked_
 
 use crate::checks::checked;
 use crate::conflict::unconflicted;
-use crate::difference::full_conflicted;
+use crate::difference::full_conflicted_beside;
+use crate::equality::are_all;
 use crate::mainline::mainline_order;
 use crate::places::members;
 use crate::power::{other_set, power_set};
@@ -26,7 +27,7 @@ use std::alloc::Global;
 /// itself. In which order the states are given makes no difference.
 ///
 /// The graph has to hold what the states name: an event that it lacks has no auth chain and counts as missing. The time grows with the
-/// graph and with the states, and with the square of the full conflicted set.
+/// graph and with the states, and with the square of the full conflicted set; where all states are equal, with the states alone.
 ///
 /// # Errors
 ///
@@ -34,6 +35,13 @@ use std::alloc::Global;
 pub fn resolve(alloc: Global, graph: &Graph, states: &[State]) -> Result<State, NoMemory>
     ensures { IfOk result (λ state. state ≡ resolved_of graph.now.stored states.now) }
 {
+    let Some((first, others)) = states.split_first() else {
+        return Ok(State::new(alloc));
+    };
+    let equal = are_all(alloc, first, others)?;
+    if equal {
+        return first.copy(alloc);
+    }
     let agreed = unconflicted(alloc, states)?;
     let state = agreed.copy(alloc)?;
     let state = check_conflicted(alloc, graph, states, state)?;
@@ -50,7 +58,7 @@ fn check_conflicted(
     requires { agreed ≡ unconflicted_of states.now }
     ensures { IfOk result (λ state. state ≡ checked_state graph.now.stored states.now) }
 {
-    let set = full_conflicted(alloc, graph, states)?;
+    let set = full_conflicted_beside(alloc, graph, states, &agreed)?;
     let power = power_set(alloc, graph, &set)?;
     let others = other_set(set, &power);
     let state = check_by_power(alloc, graph, &power, agreed)?;

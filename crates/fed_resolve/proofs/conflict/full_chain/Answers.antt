@@ -1,7 +1,6 @@
-use Rattle.std.proofs.Common.{◌≡◌, map, ap, ◌∙◌, length}
+use Rattle.std.proofs.Common.{refl, ◌∙◌, length}
 use Rattle.std.specs.FinMap as finite
 use Rattle.std.proofs.lemmas.Result.{IfOk-weaker}
-use Rattle.fed_room_contract.specs.Entry.{seen}
 use Rattle.fed_resolve.specs.Chain.{is_in_chains, is_in_full_chain}
 use Rattle.fed_resolve.specs.Marks.{AreMarks}
 use Rattle.fed_resolve.proofs.Unconflicteds.{full-chain}
@@ -11,10 +10,9 @@ pub returns : goal.returns
 returns c =
     let events = c.args.graph.now.stored in
     let state = c.args.state.now in
-    let whole : map seen c.deref.result.now ≡ finite.entries state = ap (map seen) c.deref.ensures.value ∙ c.in_ok-entries.ensures in
-    IfOk-weaker c.chains.result (λ marks. AreMarks (length events) (is_in_chains events c.deref-2.result.now) marks.items) (λ marks. AreMarks (length events) (is_in_full_chain events state) marks.items)
+    IfOk-weaker c.chains.result (λ marks. AreMarks (length events) (is_in_chains events c.deref.result.now) marks.items) (λ marks. AreMarks (length events) (is_in_full_chain events state) marks.items)
     (λ v marks. record {
       long = marks.long;
-      each = λ q below. marks.each q below ∙ full-chain events state q c.deref-2.result.now (map seen c.deref.result.now) (c.deref-2.ensures.value ∙ c.in_ok-places.ensures.places) whole;
+      each = λ q below. marks.each q below ∙ full-chain events state q c.deref.result.now (finite.entries state) (c.deref.ensures.value ∙ c.in_ok-places.ensures.places) refl;
     })
     c.chains.ensures

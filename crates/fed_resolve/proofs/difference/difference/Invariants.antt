@@ -1,11 +1,16 @@
-use Rattle.std.proofs.Common.{length, take}
-use Rattle.fed_resolve.specs.Marks.{AreMarks}
+use Rattle.std.proofs.Common.{◌≡◌, ◌<◌, ◌||◌, ◌&&◌, ℕ, length}
+use Rattle.fed_resolve.specs.ChainParts.{is_marked}
 use Rattle.fed_resolve.specs.ConflictParts.{is_in_some, is_in_every}
 use Rattle.fed_resolve.proofs.difference.difference.Given as goal
 
--- what is in the full chains of some and of every state so far
-abbrev pub invariant-loop-state : goal.invariant-loop-state
-invariant-loop-state l = record {
-  some : AreMarks (length l.graph.stored) (is_in_some l.graph.stored (take l.state-index l.states)) l.some.items;
-  every : AreMarks (length l.graph.stored) (is_in_every l.graph.stored (take l.state-index l.states)) l.every.items;
+-- what is marked, and what is in the full chains of some and of every state that is left
+abbrev pub invariant-loop-left : goal.invariant-loop-left
+invariant-loop-left l = record {
+  long_some : length l.some.items ≡ length l.graph.stored;
+  long_every : length l.every.items ≡ length l.graph.stored;
+  some : (q : ℕ) → q < length l.graph.stored → (is_marked l.some.items q || is_in_some l.graph.stored l.left q) ≡ is_in_some l.graph.stored l.states q;
+  every : (q : ℕ) → q < length l.graph.stored → (is_marked l.every.items q && is_in_every l.graph.stored l.left q) ≡ is_in_every l.graph.stored l.states q;
 }
+
+abbrev pub decreases-loop-left : goal.decreases-loop-left
+decreases-loop-left l = length l.left

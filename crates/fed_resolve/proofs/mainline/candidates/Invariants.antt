@@ -1,5 +1,6 @@
-use Rattle.std.proofs.Common.{◌≡◌, ℕ, List, All, length, map, take}
+use Rattle.std.proofs.Common.{◌≡◌, ℕ, Option, All, length, map, take}
 use Rattle.fed_resolve.specs.OrderParts.{candidate_place}
+use Rattle.fed_resolve.specs.Mainline.{mainline}
 use Rattle.fed_resolve.specs.RankParts.{AreIndices, IsMainlineCandidate}
 use Rattle.fed_resolve.proofs.mainline.candidates.Given as goal
 
@@ -7,5 +8,5 @@ use Rattle.fed_resolve.proofs.mainline.candidates.Given as goal
 abbrev pub invariant-loop-place : goal.invariant-loop-place
 invariant-loop-place l = record {
   places : map candidate_place l.candidates.items ≡ take l.place-index l.set;
-  each : (line : List ℕ) → AreIndices (length l.graph.stored) line l.indices → All (IsMainlineCandidate l.graph.stored line) l.candidates.items;
+  each : (levels : Option ℕ) → AreIndices (length l.graph.stored) (mainline l.graph.stored levels) l.indices → All (IsMainlineCandidate l.graph.stored (mainline l.graph.stored levels)) l.candidates.items;
 }
