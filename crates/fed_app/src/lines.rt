@@ -15,7 +15,7 @@ use fed_event::Trusting;
 use fed_http::write_whole;
 use fed_inbox::{Inbox, Reply};
 use fed_json::NoMemory;
-use fed_replies::ListStore;
+use fed_replies::PackedStore;
 use std::alloc::Global;
 use std::io;
 use std::io::{Read, Write};
@@ -50,7 +50,7 @@ pub fn inbox_run<R: Read + Drop, W: Write>(
         rooms,
     } = setup;
     let keys = Trusting::new(String::from_str(alloc, own.as_str())?);
-    let inbox = Inbox::new(alloc, own, servers, rooms, ListStore::new(alloc))?;
+    let inbox = Inbox::new(alloc, own, servers, rooms, PackedStore::new(alloc))?;
     let mut input = Input::new(alloc, reader, MAX_READS)?;
     answer_lines(alloc, inbox, &keys, &mut input, writer)
 }
@@ -58,7 +58,7 @@ pub fn inbox_run<R: Read + Drop, W: Write>(
 // Answers the lines of an input, one after another.
 fn answer_lines<R: Read, W: Write>(
     alloc: Global,
-    mut inbox: Inbox<ListStore>,
+    mut inbox: Inbox<PackedStore>,
     keys: &Trusting,
     input: &mut Input<R>,
     writer: &mut W,

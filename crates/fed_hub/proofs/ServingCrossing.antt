@@ -14,8 +14,8 @@ use Rattle.fed_wires.proofs.ends.SendEnd.TheSendSync as send
 use Rattle.fed_wires.proofs.ends.SendPass.TheSendSync as send_pass
 use Rattle.fed_wires.specs.contracts.numbering.AnyMessage as any_message
 use Rattle.fed_wires.specs.contracts.numbering.AnyMessageNumbering.TheImpl as numbers
-use Rattle.fed_replies.specs.contracts.list_store.ListStore as list_store
-use Rattle.fed_replies.specs.contracts.list_store.ListStoreReplyStore.TheImpl as keeps
+use Rattle.fed_replies.specs.contracts.packed_store.PackedStore as packed_store
+use Rattle.fed_replies.specs.contracts.packed_store.PackedStoreReplyStore.TheImpl as keeps
 use Rattle.fed_inbox.specs.contracts.inbox.Inbox as inbox
 use Rattle.fed_inbox.specs.contracts.receiver.Receiver as receiver
 use Rattle.fed_hub_serving.specs.contracts.kept_point.KeptPoint as point
@@ -29,7 +29,7 @@ use Rattle.fed_hub_rooms.proofs.Crossing.{checked_send}
 use Rattle.fed_hub.specs.contracts.reception.Reception as reception
 use Rattle.fed_hub.specs.contracts.reception.Reception.TheInside as reception_inside
 
-inbox_send : IsSend (inbox.the_row list_store.the_row keeps.ghosts)
+inbox_send : IsSend (inbox.the_row packed_store.the_row keeps.ghosts)
 inbox_send = first_of (
   search (maps.crosses, crossing.crosses, TheKnot.crosses, sendable) depth 60 fits 20000,
   search (maps.crosses, crossing.crosses, TheKnot.crosses_both, sendable) depth 60 fits 20000,
@@ -50,8 +50,8 @@ wires_send = view_send _ _ _ _ _ (declared_send wires_inside.the_type (
   (search (send_pass_send, vec.the_send, crossing.crosses, sendable) depth 60 fits 20000, (search sendable depth 60, tt)),
 ))
 
-kept_inbox_send : (N : RattleType) (names : naming.Ghosts N.Denot) → IsSend (kept.the_row N list_store.the_row names keeps.ghosts)
-kept_inbox_send N names = view_send _ _ _ _ _ (declared_send (kept_inside.the_type N list_store.the_row names keeps.ghosts) (
+kept_inbox_send : (N : RattleType) (names : naming.Ghosts N.Denot) → IsSend (kept.the_row N packed_store.the_row names keeps.ghosts)
+kept_inbox_send N names = view_send _ _ _ _ _ (declared_send (kept_inside.the_type N packed_store.the_row names keeps.ghosts) (
   inbox_send,
   (search (point_send, vec.the_send, crossing.crosses, sendable) depth 60 fits 20000, (wires_send, (search sendable depth 60, tt))),
 ))

@@ -10,7 +10,7 @@ use fed_dest::{List, ServerIndex};
 use fed_event::Keys;
 use fed_hub_serving::{KeptInbox, ServingNaming};
 use fed_hub_state::{KeptRoom, Naming, SeatedOutbox, SendingJournal};
-use fed_replies::ListStore;
+use fed_replies::PackedStore;
 use fed_wires::Board;
 use std::marker::Model;
 use std::sync::Mutex;
@@ -60,7 +60,7 @@ impl<N: Naming + ServingNaming, K: Keys + Drop> Hub<N, K> {
     }
 
     /// The inbox under its lock, for who reads what it took and answered. Who holds the lock makes those wait that answer requests.
-    pub fn inbox(&self) -> &Mutex<KeptInbox<N, ListStore>> {
+    pub fn inbox(&self) -> &Mutex<KeptInbox<N, PackedStore>> {
         self.reception.inbox()
     }
 

@@ -12,7 +12,7 @@ use fed_hub_serving::{
 use fed_hub_state::KeptRoom;
 use fed_inbox::{Inbox, Receiver};
 use fed_json::NoMemory;
-use fed_replies::ListStore;
+use fed_replies::PackedStore;
 use fed_wires::{AnyMessage, SendEnd};
 use std::alloc::Global;
 use std::io::{Read, Write};
@@ -27,7 +27,7 @@ use std::sync::{Mutex, Wait};
 pub(crate) struct Reception<N: ServingNaming> {
     known: Vec<String>,
     receiver: Receiver,
-    inbox: Mutex<KeptInbox<N, ListStore>>,
+    inbox: Mutex<KeptInbox<N, PackedStore>>,
 }
 
 impl<N: ServingNaming> Model for Reception<N> {
@@ -70,7 +70,7 @@ impl<N: ServingNaming> Reception<N> {
             own.copy(alloc)?,
             list.copy(alloc)?,
             ids_of(alloc, rooms)?,
-            ListStore::new(alloc),
+            PackedStore::new(alloc),
         )?;
         let inbox = KeptInbox::new(alloc, inbox, ends)?;
         Ok(Reception {
@@ -103,7 +103,7 @@ impl<N: ServingNaming> Reception<N> {
     }
 
     /// The inbox under its lock.
-    pub(crate) fn inbox(&self) -> &Mutex<KeptInbox<N, ListStore>> {
+    pub(crate) fn inbox(&self) -> &Mutex<KeptInbox<N, PackedStore>> {
         &self.inbox
     }
 
@@ -136,7 +136,7 @@ impl<N: ServingNaming> Model for Desk<N> {
 
 impl<N: ServingNaming> Reception<N> {
     /// Takes the inbox out of its lock.
-    pub(crate) fn open(self) -> (Desk<N>, KeptInbox<N, ListStore>)
+    pub(crate) fn open(self) -> (Desk<N>, KeptInbox<N, PackedStore>)
         ensures { result.0 ≡ self }
     {
         let Reception {
@@ -162,7 +162,7 @@ impl<N: ServingNaming> Desk<N> {
     }
 
     /// Puts the inbox under its lock again.
-    pub(crate) fn close(self, inbox: KeptInbox<N, ListStore>) -> Reception<N>
+    pub(crate) fn close(self, inbox: KeptInbox<N, PackedStore>) -> Reception<N>
         ensures { result ≡ self }
     {
         let Desk {

@@ -10,7 +10,7 @@ use fed_hub_serving::{KeptInbox, ServingNaming};
 use fed_hub_state::{KeptRoom, Naming, SeatedOutbox, SendingJournal};
 use fed_hub_told::is_as_told;
 use fed_json::NoMemory;
-use fed_replies::ListStore;
+use fed_replies::PackedStore;
 use fed_wires::Board;
 use std::alloc::Global;
 
@@ -20,7 +20,7 @@ use std::alloc::Global;
 pub struct Report<N: Naming + ServingNaming> {
     pub journal: SendingJournal<N>,
     pub outboxes: Vec<SeatedOutbox<N>>,
-    pub inbox: KeptInbox<N, ListStore>,
+    pub inbox: KeptInbox<N, PackedStore>,
     pub rooms: Vec<KeptRoom>,
     pub delivered: Vec<u64>,
 }

@@ -1,2 +1,13 @@
 pub mod Maps
 pub mod Kept
+pub mod OtherValues
+pub mod HashIds
+pub mod ReplyTexts
+pub mod PlainReplies
+pub mod MergedParts
+pub mod TextTables
+pub mod Entering
+pub mod Unpacking
+pub mod Growing
+pub mod Stored
+pub mod Packing

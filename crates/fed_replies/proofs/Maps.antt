@@ -79,3 +79,7 @@ module _ {V X : Type 0} (seen : V → X) where
   pub text_map-missing : (es fs : List (String Global × V)) (k l : List ℕ) → texts.AreSorted seen es → lookup (at k) es ≡ None → fs ≡ es → l ≡ k → finite.get (text_map seen fs) l ≡ None
   text_map-missing es fs k l h none e same =
       ap (λ xs. finite.get (text_map seen xs) l) e ∙ texts.get-text_map seen es h l ∙ ap (λ q. option_map seen (lookup (at q) es)) same ∙ ap (option_map seen) none
+
+pub same_option : {X : Type 0} (o : Option X) → option_map (λ x. x) o ≡ o
+same_option None = refl
+same_option (Some x) = refl

@@ -1,1 +1,12 @@
 pub mod Kept
+pub mod HashId
+pub mod Plain
+pub mod Texts
+pub mod PackedReply
+pub mod ReplyText
+pub mod TextTable
+pub mod Places
+pub mod Pieces
+pub mod Forms
+pub mod PackedReplies
+pub mod PackedStore

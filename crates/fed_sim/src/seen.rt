@@ -16,7 +16,7 @@ use fed_dest::{ServerIndex, ServerName};
 use fed_inbox::Inbox;
 use fed_journal::Journal;
 use fed_outbox::Outbox;
-use fed_replies::ListStore;
+use fed_replies::PackedStore;
 
 impl World {
     /// The names of the servers, in the order of their bytes. A server is named by its place among them.
@@ -69,7 +69,7 @@ impl World {
     }
 
     /// The inbox of a server; `None` where it is not listed.
-    pub fn inbox(&self, server: ServerIndex) -> Option<&Inbox<ListStore>>
+    pub fn inbox(&self, server: ServerIndex) -> Option<&Inbox<PackedStore>>
         ensures { option_map (λ inbox. inbox.now.state) result ≡ option_map (λ s. s.inbox) (slice_get (world_of self.entry.now).servers server) }
     {
         Some(&self.servers.get(server.place())?.inbox)

@@ -12,7 +12,7 @@ use fed_event::StandIn;
 use fed_inbox::Inbox;
 use fed_journal::Journal;
 use fed_json::NoMemory;
-use fed_replies::ListStore;
+use fed_replies::PackedStore;
 use std::alloc::Global;
 
 /// A server of a world: its rooms, in the order of the setup, its journal, the way to each destination, and its inbox.
@@ -23,7 +23,7 @@ pub(crate) struct Server {
     pub(crate) rooms: Vec<Hosted>,
     pub(crate) journal: Journal,
     pub(crate) ways: Vec<Way>,
-    pub(crate) inbox: Inbox<ListStore>,
+    pub(crate) inbox: Inbox<PackedStore>,
 }
 
 impl Server {
@@ -43,7 +43,7 @@ impl Server {
         let name = list.names()[own.place()].copy(alloc)?;
         let servers = list.copy(alloc)?;
         let known = texts(alloc, known)?;
-        let inbox = Inbox::new(alloc, name, servers, known, ListStore::new(alloc))?;
+        let inbox = Inbox::new(alloc, name, servers, known, PackedStore::new(alloc))?;
         Ok(Server {
             own,
             keys: keys_of(alloc, list.name(own))?,

@@ -2,12 +2,12 @@
 use fed_app::InboxSetup;
 use fed_event::Trusting;
 use fed_inbox::{Inbox, Refusal};
-use fed_replies::ListStore;
+use fed_replies::PackedStore;
 use std::alloc::Global;
 use std::test::Fail;
 
 // The inbox of b.example, which takes from a.example.
-pub(crate) fn inbox(alloc: Global) -> Result<Inbox<ListStore>, Fail> {
+pub(crate) fn inbox(alloc: Global) -> Result<Inbox<PackedStore>, Fail> {
     let mut servers = Vec::new(alloc);
     servers.push(String::from_str(alloc, "a.example")?)?;
     let mut rooms = Vec::new(alloc);
@@ -18,7 +18,7 @@ pub(crate) fn inbox(alloc: Global) -> Result<Inbox<ListStore>, Fail> {
         setup.own,
         setup.servers,
         setup.rooms,
-        ListStore::new(alloc),
+        PackedStore::new(alloc),
     )?)
 }
 

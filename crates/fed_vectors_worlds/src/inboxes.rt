@@ -4,20 +4,29 @@ use fed_app::{InboxSetup, SetupFault};
 use fed_http::Field;
 use fed_inbox::{Inbox, Reply, Taken};
 use fed_json::{Items, Json};
-use fed_replies::ListStore;
+use fed_replies::{ListStore, PackedStore, ReplyStore};
 use fed_vectors_call::{Answer, Arguments, List, Object, Stop, number, text_of_bytes};
 use fed_vectors_events::KeyRing;
 use fed_vectors_events::events::whole_events;
 use std::alloc::Global;
 
-/// What an inbox answers to the requests, and what it took.
+/// What an inbox answers to the requests, and what it took: the same, whether it keeps its replies as they are or packed.
 pub fn inbox(call: Arguments<'_>) -> Answer {
+    let told = told_over(call, ListStore::new(call.alloc))?;
+    if told != told_over(call, PackedStore::new(call.alloc))? {
+        return Err(Stop::error(format!(in call.alloc; "the stores differ")));
+    }
+    Ok(told)
+}
+
+// The same of an inbox over this store.
+fn told_over<S: ReplyStore + Drop>(call: Arguments<'_>, store: S) -> Answer {
     let InboxSetup {
         own,
         servers,
         rooms,
     } = setup(call)?;
-    let mut inbox = Inbox::new(call.alloc, own, servers, rooms, ListStore::new(call.alloc))?;
+    let mut inbox = Inbox::new(call.alloc, own, servers, rooms, store)?;
     let answers = answers(call, &mut inbox)?;
     with_taken(call, answers, &inbox)
 }
@@ -34,7 +43,7 @@ pub(crate) fn setup(call: Arguments<'_>) -> Result<InboxSetup, Stop> {
 }
 
 // The answers, and what was taken from each server.
-fn with_taken(call: Arguments<'_>, answers: Json, inbox: &Inbox<ListStore>) -> Answer {
+fn with_taken<S: ReplyStore>(call: Arguments<'_>, answers: Json, inbox: &Inbox<S>) -> Answer {
     let mut pdus = Object::new(call.alloc);
     let mut edus = Object::new(call.alloc);
     for server in &call.strings("servers")? {
@@ -48,7 +57,7 @@ fn with_taken(call: Arguments<'_>, answers: Json, inbox: &Inbox<ListStore>) -> A
         .into_answer()
 }
 
-fn answers(call: Arguments<'_>, inbox: &mut Inbox<ListStore>) -> Answer {
+fn answers<S: ReplyStore>(call: Arguments<'_>, inbox: &mut Inbox<S>) -> Answer {
     let keys = KeyRing::of(call, call.text("own")?)?;
     let mut answers = List::new(call.alloc);
     for item in call.items("requests")? {
@@ -59,7 +68,7 @@ fn answers(call: Arguments<'_>, inbox: &mut Inbox<ListStore>) -> Answer {
 }
 
 // The answer to a request, and the events that it hands out.
-fn answer(request: Arguments<'_>, inbox: &mut Inbox<ListStore>, keys: &KeyRing) -> Answer {
+fn answer<S: ReplyStore>(request: Arguments<'_>, inbox: &mut Inbox<S>, keys: &KeyRing) -> Answer {
     let leaves = request.is_set("leave")?;
     let told = told_of(request.alloc, &reply(request, inbox, keys)?);
     if leaves {
@@ -69,9 +78,9 @@ fn answer(request: Arguments<'_>, inbox: &mut Inbox<ListStore>, keys: &KeyRing) 
     told.with("fresh", fresh).into_answer()
 }
 
-fn reply(
+fn reply<S: ReplyStore>(
     request: Arguments<'_>,
-    inbox: &mut Inbox<ListStore>,
+    inbox: &mut Inbox<S>,
     keys: &KeyRing,
 ) -> Result<Reply, Stop> {
     let body = request.body()?;
