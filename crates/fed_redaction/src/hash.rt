@@ -7,7 +7,7 @@ ghost use Rattle.fed_redaction.specs.Names.{is_one_of, members_of};
 ghost use Rattle.fed_redaction.specs.TextsParts.{covered_members};
 ghost use Rattle.fed_redaction.specs.ContentHash.{uncovered_keys, covered_text_of, hash_of_covered, content_hash_of, given_hash_of, hash_fits_of};
 
-use crate::object_text::ObjectText;
+use crate::object_text::{ObjectText, USUAL_LENGTH};
 use base64::engine::general_purpose::STANDARD_NO_PAD;
 use fed_json::{Json, Members, NoMemory, canonical};
 use sha2::{Digest, Sha256};
@@ -42,7 +42,7 @@ fn covered_object(alloc: Global, members: Members<'_>) -> Result<Vec<u8>, NoMemo
     ensures { let covered = covered_members (members_of (members_left members.entry)) in
         IfOk result (λ text. text.items ≡ canonical_text (object covered)) }
 {
-    let mut covered = ObjectText::begin(Vec::new(alloc))?;
+    let mut covered = ObjectText::begin(Vec::with_capacity(alloc, USUAL_LENGTH)?)?;
     for (name, value) in members {
         if is_covered(name) {
             covered.add(alloc, name, value)?;

@@ -10,6 +10,9 @@ use crate::names::append_name;
 use fed_json::{JsonRef, NoMemory};
 use std::alloc::Global;
 
+// The text of most events is not longer, so its memory is taken once.
+pub(crate) const USUAL_LENGTH: usize = 1_024;
+
 // The text so far, and whether a member stands in it.
 #[derive(Drop)]
 pub(crate) struct ObjectText {

@@ -10,7 +10,7 @@ ghost use Rattle.fed_redaction.specs.EventId.{signed_text_of};
 ghost use Rattle.fed_redaction.specs.TextsParts.{completed, signed_members};
 
 use crate::kept::{content_keys, is_among, is_signed};
-use crate::object_text::ObjectText;
+use crate::object_text::{ObjectText, USUAL_LENGTH};
 use crate::redaction::event_type;
 use fed_json::{Json, JsonRef, Members, NoMemory, canonical};
 use std::alloc::Global;
@@ -33,7 +33,7 @@ fn signed_object(alloc: Global, members: Members<'_>, keys: &[&str]) -> Result<V
     ensures { let signed = signed_members (map (λ key. key.now) keys.now) (members_of (members_left members.entry)) in
         IfOk result (λ text. text.items ≡ canonical_text (object signed)) }
 {
-    let mut signed = ObjectText::begin(Vec::new(alloc))?;
+    let mut signed = ObjectText::begin(Vec::with_capacity(alloc, USUAL_LENGTH)?)?;
     for (name, value) in members {
         add_signed(alloc, &mut signed, name, value, keys)?;
     }
