@@ -24,30 +24,47 @@ static call *call_of(const char *name)
     return NULL;
 }
 
+/* The bytes of a file, whose number is told; NULL where it can't be read. */
+static uint8_t *bytes_of(const char *path, size_t *count)
+{
+    FILE *file = fopen(path, "rb");
+    if (!file)
+        return NULL;
+    uint8_t *bytes = NULL;
+    long size = fseek(file, 0, SEEK_END) ? -1 : ftell(file);
+    if (size >= 0 && !fseek(file, 0, SEEK_SET) && (bytes = malloc((size_t)size + 1)))
+        *count = fread(bytes, 1, (size_t)size, file);
+    fclose(file);
+    return bytes;
+}
+
 int main(int count, char **words)
 {
+    /* Answers are gathered in the first half, and go out when it is full; an answer has room in the second. */
     static uint8_t out[1 << 20];
-    static char buffers[2][1 << 20];
+    const size_t half = sizeof out / 2;
     call *made = count == 3 ? call_of(words[1]) : NULL;
-    FILE *file = made ? fopen(words[2], "rb") : NULL;
-    if (!file) {
+    size_t size = 0, held = 0;
+    uint8_t *bytes = made ? bytes_of(words[2], &size) : NULL;
+    if (!bytes) {
         fputs("usage: library canonical|eventid|content_hash FILE\n", stderr);
         return 2;
     }
-    setvbuf(file, buffers[0], _IOFBF, sizeof buffers[0]);
-    setvbuf(stdout, buffers[1], _IOFBF, sizeof buffers[1]);
-    char *line = NULL;
-    size_t room = 0;
-    ssize_t len;
-    while ((len = getline(&line, &room, file)) > 0) {
+    setvbuf(stdout, NULL, _IONBF, 0);
+    for (size_t start = 0, end; start < size; start = end + 1) {
+        const uint8_t *found = memchr(bytes + start, '\n', size - start);
+        end = found ? (size_t)(found - bytes) : size;
         size_t needed;
-        if (line[len - 1] == '\n')
-            len--;
-        if (made((const uint8_t *)line, (size_t)len, out, sizeof out - 1, &needed) != WIKZORD_DONE)
+        if (made(bytes + start, end - start, out + held, sizeof out - held - 1, &needed) != WIKZORD_DONE)
             return 1;
-        out[needed] = '\n';
-        fwrite(out, 1, needed + 1, stdout);
+        held += needed;
+        out[held++] = '\n';
+        if (held >= half) {
+            fwrite(out, 1, held, stdout);
+            held = 0;
+        }
     }
-    free(line);
-    return fclose(file) || fclose(stdout);
+    fwrite(out, 1, held, stdout);
+    free(bytes);
+    return fclose(stdout);
 }
