@@ -1,5 +1,5 @@
 #!/bin/sh
-# Measures what resolving the states of 8 branches of a room costs, in rooms of 2,000 and of 10,000 events: the built program
+# Measures what resolving the states of 8 branches of a room costs, in rooms of 2,000, 10,000, 16,000 and 50,000 events: the built program
 # crates/fed_bench/out/fed_bench (after `rt run < stdin` there) beside PEER, a program which does the same work for
 # `PEER resolve EVENTS BRANCHES TIMES --dump FILE`, and writes that room and its states to FILE.
 #
@@ -39,11 +39,11 @@ def least(one, other):
 
 print("events   a resolution  the peer's     ratio  states")
 with tempfile.TemporaryDirectory() as room:
-    for events in (2_000, 10_000):
+    for events in (2_000, 10_000, 16_000, 50_000):
         file = os.path.join(room, str(events))
         theirs = lambda: told([peer, "resolve", str(events), str(BRANCHES), str(TIMES), "--dump", file])
         theirs()
         ours = lambda: told([program], f"resolve {file}\n".encode())
         one, other, states = least(ours, theirs)
-        print(f"{events:<8} {one / 1e3:9.3f} ms {other / 1e3:9.3f} ms {one / other:9.1f}  {states}")
+        print(f"{events:<8} {one / 1e3:9.3f} ms {other / 1e3:9.3f} ms {one / other:9.2f}  {states}")
 PY
