@@ -1,11 +1,14 @@
 #!/bin/sh
-# Measures what reading a request of 8,000,000 bytes costs: the built program crates/fed_bench/out/fed_bench (after `rt run < stdin` there)
-# reads one whose body comes by its length and one that comes in chunks, from pieces of 65,536 bytes, and from small ones a shorter one.
+# Measures what reading a request with a body of 8,000,000 bytes costs: the built program crates/fed_bench/out/fed_bench (after
+# `rt run < stdin` there) reads one whose body comes by its length and one that comes in chunks of 65,536 bytes, from pieces of 65,536, 4,096,
+# 256, 16 and 1 bytes.
 #
 #     bench/reading.sh [RUNS [PEER]]
 #
 # PEER is a program that does the same work for `PEER http FILE TIMES PIECE`, to compare with. Prints the time for one request, of the
-# fastest run, less what a run without a request takes. Figures of two machines can't be compared.
+# fastest run, less what a run without a request takes, and the peak memory of a run, the text of the request among it. Of large pieces nearly
+# all of the time is one copy of the body, whose pace hangs on where its bytes lie; so that is the mean for heads of eight lengths. Figures of
+# two machines can't be compared.
 set -e
 here=$(cd "$(dirname "$0")" && pwd)
 program=$here/../crates/fed_bench/out/fed_bench
@@ -14,47 +17,62 @@ python3 - "$program" "${1:-3}" "${2:-}" <<'PY'
 import os, subprocess, sys, tempfile, time
 
 program, runs, peer = sys.argv[1], int(sys.argv[2]), sys.argv[3]
-CHUNK = 65_536
+SIZE, CHUNK, SHIFT = 8_000_000, 65_536, 525
 
 
-def text(coding, size):
-    if coding == "whole":
-        return b"PUT /p HTTP/1.1\r\nContent-Length: %d\r\n\r\n" % size + b"a" * size
-    chunks = b"".join(b"%x\r\n" % min(CHUNK, size - at) + b"a" * min(CHUNK, size - at) + b"\r\n" for at in range(0, size, CHUNK))
-    return b"PUT /p HTTP/1.1\r\nTransfer-Encoding: chunked\r\n\r\n" + chunks + b"0\r\n\r\n"
+# The text is never held here as a whole: a process that is started counts what its parent holds as its own peak.
+def write_text(file, coding, field):
+    file.write(b"PUT /p HTTP/1.1\r\nA: %s\r\n" % (b"b" * field))
+    file.write(b"Content-Length: %d\r\n\r\n" % SIZE if coding == "whole" else b"Transfer-Encoding: chunked\r\n\r\n")
+    for at in range(0, SIZE, CHUNK):
+        data = b"a" * min(CHUNK, SIZE - at)
+        file.write(data if coding == "whole" else b"%x\r\n%s\r\n" % (len(data), data))
+    file.write(b"" if coding == "whole" else b"0\r\n\r\n")
+    file.flush()
 
 
-def least(command, given):
-    times = []
-    for _ in range(runs):
+# The time of a run and its peak memory.
+def once(command, given):
+    with tempfile.TemporaryFile() as lines:
+        lines.write(given)
+        lines.seek(0)
         start = time.perf_counter()
-        done = subprocess.run(command, input=given, capture_output=True)
-        times.append(time.perf_counter() - start)
-        if done.returncode != 0:
-            sys.exit(f"{command}: {done.stdout} {done.stderr}")
-    return min(times)
+        running = subprocess.Popen(command, stdin=lines, stdout=subprocess.DEVNULL)
+        _, status, used = os.wait4(running.pid, 0)
+        took = time.perf_counter() - start
+    if status != 0:
+        sys.exit(f"{command}: status {status}")
+    return took, used.ru_maxrss / 1024
 
 
-def ours(coding, size, piece, times):
-    line = lambda n: b"read %s %d %d %d\n" % (coding.encode(), size, piece, n)
-    return (least([program], line(times)) - least([program], line(0))) / times
+def ours(coding, field, piece, times):
+    return once([program], b"read %s %d %d %d %d\n" % (coding.encode(), SIZE, piece, times, field))
 
 
-def theirs(coding, size, piece, times):
+def theirs(coding, field, piece, times):
     with tempfile.NamedTemporaryFile() as file:
-        file.write(text(coding, size))
-        file.flush()
-        run = lambda n: least([peer, "http", file.name, str(n), str(piece)], b"")
-        return (run(times) - run(0)) / times
+        write_text(file, coding, field)
+        return once([peer, "http", file.name, str(times), str(piece)], b"")
 
 
-print("coding   bytes     piece   a request" + ("   the peer's  ratio" if peer else ""))
+# The time for one request, and the peak memory, of so many.
+def cost(read, coding, piece, times):
+    fields = [k * SHIFT for k in range(8)] if piece >= 4_096 else [0]
+    least, peak = 0.0, 0.0
+    for field in fields:
+        some, none = [read(coding, field, piece, times) for _ in range(runs)], [read(coding, field, piece, 0) for _ in range(runs)]
+        least += min(took for took, _ in some) - min(took for took, _ in none)
+        peak = max([peak] + [memory for _, memory in some])
+    return least / times / len(fields), peak
+
+
+print("coding   bytes     piece   a request      memory" + ("    the peer's                  ratios" if peer else ""))
 for coding in ("whole", "chunked"):
-    for size, piece, times in ((8_000_000, 65_536, 20), (8_000_000, 4_096, 5), (200_000, 256, 5), (200_000, 16, 2), (200_000, 1, 1)):
-        one = ours(coding, size, piece, times)
-        row = f"{coding:<8} {size:<9} {piece:<7} {one * 1e3:9.3f} ms"
+    for piece, times in ((65_536, 40), (4_096, 40), (256, 20), (16, 10), (1, 2)):
+        one, memory = cost(ours, coding, piece, times)
+        row = f"{coding:<8} {SIZE:<9} {piece:<7} {one * 1e3:9.3f} ms {memory:6.1f} MiB"
         if peer:
-            other = theirs(coding, size, piece, times)
-            row += f" {other * 1e3:9.3f} ms {one / other:7.1f}"
-        print(row)
+            other, used = cost(theirs, coding, piece, times)
+            row += f" {other * 1e3:9.3f} ms {used:6.1f} MiB {one / other:7.2f} {memory / used:7.2f}"
+        print(row, flush=True)
 PY

@@ -25,7 +25,8 @@ pub(crate) fn line_of(line: &str) -> Option<Line<'_>> {
 fn reading_of(words: &str) -> Option<Reading> {
     let (coding, numbers) = words.split_once(' ')?;
     let (size, numbers) = numbers.split_once(' ')?;
-    let (piece, times) = numbers.split_once(' ')?;
+    let (piece, numbers) = numbers.split_once(' ')?;
+    let (times, field) = numbers.split_once(' ')?;
     let chunked = match coding {
         "whole" => false,
         "chunked" => true,
@@ -36,5 +37,6 @@ fn reading_of(words: &str) -> Option<Reading> {
         size: size.parse().ok()?,
         piece: piece.parse().ok()?,
         times: times.parse().ok()?,
+        field: field.parse().ok()?,
     })
 }

@@ -6,13 +6,15 @@ use std::alloc::Global;
 // The most bytes of a chunk.
 const CHUNK: usize = 65_536;
 
-/// What is read: a request whose body has so many bytes, in chunks or not, so many times, in pieces of so many bytes.
+/// What is read: a request whose body has so many bytes, in chunks or not, so many times, in pieces of so many bytes. Its head has a field
+/// of so many bytes, which moves the body against the pieces.
 #[derive(Clone, Copy)]
 pub(crate) struct Reading {
     pub(crate) chunked: bool,
     pub(crate) size: usize,
     pub(crate) piece: usize,
     pub(crate) times: usize,
+    pub(crate) field: usize,
 }
 
 /// How many requests were read.
@@ -48,32 +50,34 @@ fn read_once(alloc: Global, reader: &mut Reader, text: &[u8], piece: usize) -> R
 }
 
 fn text_of(alloc: Global, reading: Reading) -> Result<Vec<u8>, Stop> {
-    if reading.chunked {
-        in_chunks(alloc, reading.size)
-    } else {
-        whole(alloc, reading.size)
+    let mut text = Vec::from_slice(alloc, b"PUT /p HTTP/1.1\r\nA: ")?;
+    for _ in 0..reading.field {
+        text.push(b'b')?;
     }
-}
-
-// The request with its length.
-fn whole(alloc: Global, size: usize) -> Result<Vec<u8>, Stop> {
-    let head = format!(in alloc; "PUT /p HTTP/1.1\r\nContent-Length: {size}\r\n\r\n")?;
-    let mut text = Vec::from_slice(alloc, head.as_bytes())?;
-    for _ in 0..size {
-        text.push(b'a')?;
+    text.extend_from_slice(b"\r\n")?;
+    if reading.chunked {
+        push_chunks(alloc, &mut text, reading.size)?;
+    } else {
+        push_whole(alloc, &mut text, reading.size)?;
     }
     Ok(text)
 }
 
-// The request in chunks.
-fn in_chunks(alloc: Global, size: usize) -> Result<Vec<u8>, Stop> {
-    let mut text = Vec::from_slice(
-        alloc,
-        b"PUT /p HTTP/1.1\r\nTransfer-Encoding: chunked\r\n\r\n",
-    )?;
+// The rest of the request, with its length.
+fn push_whole(alloc: Global, text: &mut Vec<u8>, size: usize) -> Result<(), Stop> {
+    text.extend_from_slice(format!(in alloc; "Content-Length: {size}\r\n\r\n")?.as_bytes())?;
+    for _ in 0..size {
+        text.push(b'a')?;
+    }
+    Ok(())
+}
+
+// The rest of the request, in chunks.
+fn push_chunks(alloc: Global, text: &mut Vec<u8>, size: usize) -> Result<(), Stop> {
+    text.extend_from_slice(b"Transfer-Encoding: chunked\r\n\r\n")?;
     for place in 0..size {
         if place % CHUNK == 0 {
-            begin_chunk(alloc, &mut text, place, size)?;
+            begin_chunk(alloc, text, place, size)?;
         }
         text.push(b'a')?;
     }
@@ -81,7 +85,7 @@ fn in_chunks(alloc: Global, size: usize) -> Result<Vec<u8>, Stop> {
         text.extend_from_slice(b"\r\n")?;
     }
     text.extend_from_slice(b"0\r\n\r\n")?;
-    Ok(text)
+    Ok(())
 }
 
 // The line of the chunk that begins at this place of the body, behind the end of the chunk before.

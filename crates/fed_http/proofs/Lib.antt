@@ -26,6 +26,16 @@ mod Verdicts
 mod Stays
 mod Settled
 mod Feeds
+mod Keeping
+mod HeadSteps
+mod LineSteps
+mod BodySteps
+mod TrailerSteps
+mod Steps
+mod TextSteps
+mod Kept
+mod TakenBodies
+mod HeadStates
 mod HeadLemmas
 mod ChunkLemmas
 pub mod TextLemmas

@@ -21,6 +21,7 @@ use Rattle.fed_http.specs.Body.{IsBodyText, print_chunked, chunk_data}
 use Rattle.fed_http.specs.declared.chunks.Extent.{Extent}
 use Rattle.fed_http.specs.declared.finding.MessageSpans.{MessageSpans}
 use Rattle.fed_http.specs.declared.framing.Framing.{Framing}
+use Rattle.fed_http.specs.declared.head.HeadSpans.{HeadSpans}
 use Rattle.fed_http.specs.declared.framing.Framing.TheVariants.{NoBody, Fixed, Chunked}
 use Rattle.fed_http.specs.declared.head.StartSpans.{StartSpans}
 use Rattle.fed_http.specs.declared.head.StartSpans.TheVariants.{Request, Reply}
@@ -55,19 +56,19 @@ pub record HasTexts (window : List ℕ) (method target : Span) (fields : List He
   pub target_text : IsUtf8 (span_bytes window target)
   pub names : AreNamed window fields
 
-pub request_texts : (kind : Kind) (bytes window : List ℕ) (headers : List HeaderSpan) (method target : Span) (found : MessageSpans) (h : Head) → window ≡ take max_head bytes → found.head.start ≡ Request method target → IsFoundAt kind bytes headers found h
-    → HasTexts window method target (take found.head.fields headers)
+pub request_texts : (kind : Kind) (bytes window : List ℕ) (headers : List HeaderSpan) (method target : Span) (found : HeadSpans) (h : Head) → window ≡ take max_head bytes → found.start ≡ Request method target → IsHeadAt kind (take max_head bytes) headers found h
+    → HasTexts window method target (take found.fields headers)
 request_texts kind bytes window headers method target found h is starts at =
     let S : StartSpans → Type 0 = λ s. IsStartOf window s h in
-    let P : List ℕ → Type 0 = λ w. IsHeadAt kind w headers found.head h in
-    let here = subst P (sym is) at.at in
+    let P : List ℕ → Type 0 = λ w. IsHeadAt kind w headers found h in
+    let here = subst P (sym is) at in
     by_kind kind h here.reads.valid (subst S starts here.start) here.fields_are
   where
-    by_kind : (k : Kind) (h : Head) → IsHeadOf k h → IsStartOf window (Request method target) h → map (header_bytes window) (take found.head.fields headers) ≡ map name_and_value (field_lines h) → HasTexts window method target (take found.head.fields headers)
+    by_kind : (k : Kind) (h : Head) → IsHeadOf k h → IsStartOf window (Request method target) h → map (header_bytes window) (take found.fields headers) ≡ map name_and_value (field_lines h) → HasTexts window method target (take found.fields headers)
     by_kind Requests (request h) valid start fields = record {
       method_text = subst IsUtf8 (sym start.0) (token_text h.method valid.method);
       target_text = subst IsUtf8 (sym start.1) valid.target_text;
-      names = named_all window (take found.head.fields headers) h.fields fields valid.fields;
+      names = named_all window (take found.fields headers) h.fields fields valid.fields;
     }
     by_kind Requests (reply h) valid start fields = absurd start
     by_kind Replies (request h) valid start fields = absurd valid
@@ -135,24 +136,24 @@ message_at kind bytes headers found h body m at has is =
     }
 
 -- the message of the spans
-pub request_is : (kind : Kind) (bytes window : List ℕ) (headers : List HeaderSpan) (method target : Span) (found : MessageSpans) (h : Head) (body : List ℕ) → window ≡ take max_head bytes → found.head.start ≡ Request method target → IsFoundAt kind bytes headers found h
-    → messages.Request (record { method = span_bytes window method; target = span_bytes window target; fields = map (header_bytes window) (take found.head.fields headers); body = body }) ≡ message_of h body
+pub request_is : (kind : Kind) (bytes window : List ℕ) (headers : List HeaderSpan) (method target : Span) (found : HeadSpans) (h : Head) (body : List ℕ) → window ≡ take max_head bytes → found.start ≡ Request method target → IsHeadAt kind (take max_head bytes) headers found h
+    → messages.Request (record { method = span_bytes window method; target = span_bytes window target; fields = map (header_bytes window) (take found.fields headers); body = body }) ≡ message_of h body
 request_is kind bytes window headers method target found h body is starts at =
     let S : StartSpans → Type 0 = λ s. IsStartOf window s h in
-    let P : List ℕ → Type 0 = λ w. IsHeadAt kind w headers found.head h in
-    let here = subst P (sym is) at.at in
+    let P : List ℕ → Type 0 = λ w. IsHeadAt kind w headers found h in
+    let here = subst P (sym is) at in
     by_kind h (subst S starts here.start) here.fields_are
   where
-    by_kind : (h : Head) → IsStartOf window (Request method target) h → map (header_bytes window) (take found.head.fields headers) ≡ map name_and_value (field_lines h)
-        → messages.Request (record { method = span_bytes window method; target = span_bytes window target; fields = map (header_bytes window) (take found.head.fields headers); body = body }) ≡ message_of h body
+    by_kind : (h : Head) → IsStartOf window (Request method target) h → map (header_bytes window) (take found.fields headers) ≡ map name_and_value (field_lines h)
+        → messages.Request (record { method = span_bytes window method; target = span_bytes window target; fields = map (header_bytes window) (take found.fields headers); body = body }) ≡ message_of h body
     by_kind (request h) start fields = λ i. messages.Request (record { method = start.0 i; target = start.1 i; fields = fields i; body = body })
     by_kind (reply h) start fields = absurd start
 
-pub reply_is : (kind : Kind) (bytes : List ℕ) (headers : List HeaderSpan) (status : ℕ) (found : MessageSpans) (h : Head) (body : List ℕ) → found.head.start ≡ Reply status → IsFoundAt kind bytes headers found h
+pub reply_is : (kind : Kind) (bytes : List ℕ) (headers : List HeaderSpan) (status : ℕ) (found : HeadSpans) (h : Head) (body : List ℕ) → found.start ≡ Reply status → IsHeadAt kind (take max_head bytes) headers found h
     → messages.Reply (record { status = status; body = body }) ≡ message_of h body
 reply_is kind bytes headers status found h body starts at =
     let S : StartSpans → Type 0 = λ s. IsStartOf (take max_head bytes) s h in
-    by_kind h (subst S starts at.at.start)
+    by_kind h (subst S starts at.start)
   where
     by_kind : (h : Head) → IsStartOf (take max_head bytes) (Reply status) h → messages.Reply (record { status = status; body = body }) ≡ message_of h body
     by_kind (reply h) start = λ i. messages.Reply (record { status = start i; body = body })

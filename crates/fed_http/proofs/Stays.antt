@@ -88,16 +88,16 @@ many_stays kind bytes more many further h rest reads = many (more ++ further) h 
 
 -- ---- bodies
 
-reaches_on : (kind : Kind) (bytes rest more : List ℕ) (f : Framing) → ReachesBody kind bytes f rest → ReachesBody kind (bytes ++ more) f (rest ++ more)
+pub reaches_on : (kind : Kind) (bytes rest more : List ℕ) (f : Framing) → ReachesBody kind bytes f rest → ReachesBody kind (bytes ++ more) f (rest ++ more)
 reaches_on kind bytes rest more f r = record { head = r.head; reads = ReadsHead-append kind bytes r.head rest more r.reads; within = r.within; final = r.final; framed = r.framed }
 
-chunks_on : (bytes : List ℕ) (cs : List Chunk) (rest more : List ℕ) → ReadsChunks bytes cs rest → ReadsChunks (bytes ++ more) cs (rest ++ more)
+pub chunks_on : (bytes : List ℕ) (cs : List Chunk) (rest more : List ℕ) → ReadsChunks bytes cs rest → ReadsChunks (bytes ++ more) cs (rest ++ more)
 chunks_on bytes cs rest more r = record { valid = r.valid; fits = r.fits; whole = front-append bytes (print_chunks cs) rest more r.whole }
 
-chunks_is : (bytes : List ℕ) (cs : List Chunk) (rest other : List ℕ) → rest ≡ other → ReadsChunks bytes cs rest → ReadsChunks bytes cs other
+pub chunks_is : (bytes : List ℕ) (cs : List Chunk) (rest other : List ℕ) → rest ≡ other → ReadsChunks bytes cs rest → ReadsChunks bytes cs other
 chunks_is bytes cs rest other is r = record { valid = r.valid; fits = r.fits; whole = r.whole ∙ ap (λ v. print_chunks cs ++ v) is }
 
-trailer_on : (bytes rest more : List ℕ) → ReachesTrailer bytes rest → ReachesTrailer (bytes ++ more) (rest ++ more)
+pub trailer_on : (bytes rest more : List ℕ) → ReachesTrailer bytes rest → ReachesTrailer (bytes ++ more) (rest ++ more)
 trailer_on bytes rest more r = record {
   chunks = r.chunks;
   last = r.last;

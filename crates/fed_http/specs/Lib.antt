@@ -13,6 +13,8 @@ pub mod LineParts
 pub mod Lines
 pub mod Message
 pub mod Reader
+pub mod Keeping
+pub mod KeepingParts
 pub mod ReplyParts
 pub mod Streams
 pub mod Text

@@ -13,6 +13,10 @@ max_fields = 64
 abbrev pub max_body : ℕ
 max_body = 16777216
 
+-- the most bytes that a reader keeps: a body, a head, and a chunk line or a trailer
+abbrev pub max_held : ℕ
+max_held = 16809984
+
 -- the most digits of a body's length
 abbrev pub max_length_digits : ℕ
 max_length_digits = 19

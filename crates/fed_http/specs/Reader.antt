@@ -2,23 +2,25 @@
 use Rattle.std.specs.Prelude.{◌≡◌, ℕ, ◌≤◌, ◌⊎◌, List, [], ◌++◌, Bool, true, false, length, take, Result, Err}
 use Rattle.fed_http.specs.Text.{IsText, HasNoText}
 use Rattle.fed_http.specs.Waiting.{IsWaiting}
+use Rattle.fed_http.specs.Keeping.{Kept, IsKept}
 use Rattle.fed_http.specs.declared.fault.HttpFault.{HttpFault}
 use Rattle.fed_http.specs.declared.fault.HttpFault.TheVariants.{Memory}
 use Rattle.fed_http.specs.declared.message.Kind.{Kind}
 use Rattle.fed_http.specs.declared.message.Message.{Message}
 
--- what it reads, what it holds, and whether it told of a fault
+-- what it reads, what it keeps of the bytes, and whether it told of a fault
 pub record Reading : Type 0 where
   pub kind : Kind
-  pub held : List ℕ
+  pub kept : Kept
   pub has_failed : Bool
 
--- It stands for the bytes that came since it was made, or since it last gave a message: it told of no fault, and no message is whole in
--- them. What it holds of them is its own affair: this one holds them all.
+-- It stands for the bytes that came since it was made, or since it last gave a message: it told of no fault, no message is whole in them,
+-- and what it keeps is kept of them. Of chunks the lines are not kept, so that it may stand for several bytes; what follows then is the same
+-- for each.
 pub record StandsFor (r : Reading) (bytes : List ℕ) : Type 0 where
   pub live : r.has_failed ≡ false
   pub none : HasNoText r.kind bytes
-  pub held : r.held ≡ bytes
+  pub kept : IsKept r.kind r.kept bytes
 
 -- a message is whole: the bytes so far, up to some of the piece, are a text of it; it begins anew
 pub record Gives (old : Reading) (bytes piece : List ℕ) (new : Reading) (m : Message) (used : ℕ) : Type 0 where

@@ -20,11 +20,11 @@ pub struct Extent {
     pub text: usize,
 }
 
-// A chunk line: how many bytes it has, and the size that it gives.
+/// A chunk line: how many bytes it has, and the size that it gives.
 #[derive(Clone, Copy)]
-struct Line {
-    len: usize,
-    size: u64,
+pub struct Line {
+    pub len: usize,
+    pub size: u64,
 }
 
 // What stands at the front of what is left of a chunked body.
@@ -137,8 +137,12 @@ fn find_part(bytes: &[u8], room: usize) -> Result<Part, HttpFault>
     }
 }
 
-// The chunk line at the front of the bytes.
-fn find_line(bytes: &[u8]) -> Result<Option<Line>, HttpFault>
+/// The chunk line at the front of the bytes; `None` where it isn't whole yet.
+///
+/// # Errors
+///
+/// `BadChunk` where none can be there.
+pub fn find_line(bytes: &[u8]) -> Result<Option<Line>, HttpFault>
     ensures found { IfOk result (λ found. IfSome found (IsLineAt bytes.now)) }
     ensures unfinished { IfOk result (λ found. IfNone found (LacksLine bytes.now)) }
     ensures bad { IfErr result (λ fault. (fault ≡ HttpFault.BadChunk) × HasBadLine bytes.now) }
@@ -178,8 +182,13 @@ fn line_end(bytes: &[u8]) -> LineEnd
     }
 }
 
-// How many bytes the trailer section at the front of the bytes has. Of its lines so many are looked at as it may have.
-fn find_trailer(bytes: &[u8]) -> Result<Option<usize>, HttpFault>
+/// How many bytes the trailer section at the front of the bytes has; `None` where it isn't whole yet. Of its lines so many are looked at
+/// as it may have.
+///
+/// # Errors
+///
+/// `BadChunk` where none can be there, `BadHead` where it has too many fields, and `TooLarge` where it does not end in `MAX_HEAD` bytes.
+pub fn find_trailer(bytes: &[u8]) -> Result<Option<usize>, HttpFault>
     ensures found { IfOk result (λ found. IfSome found (IsTrailerAt bytes.now)) }
     ensures unfinished { IfOk result (λ found. IfNone found (LacksTrailer bytes.now)) }
     ensures fault { IfErr result (IsTrailerFault bytes.now) }

@@ -23,10 +23,16 @@ use std::alloc::Global;
 
 /// The message at the front of the bytes and how many bytes it has; `None` where it isn't whole yet.
 ///
+/// This is the plain form of what `Reader` does for a stream: it looks at all bytes from the first one on.
+///
 /// # Errors
 ///
-/// Each but `HasFailed`.
-pub fn read(alloc: Global, kind: Kind, bytes: &[u8]) -> Result<Option<(Message, usize)>, HttpFault>
+/// Each but `HasFailed`, as `Reader::feed` says them.
+pub fn read_message(
+    alloc: Global,
+    kind: Kind,
+    bytes: &[u8],
+) -> Result<Option<(Message, usize)>, HttpFault>
     ensures read { IfOk result (λ read. IfSome read (λ read. IsMessageAt kind bytes.now read.0 read.1)) }
     ensures waiting { IfOk result (λ read. IfNone read (IsWaiting kind bytes.now)) }
     ensures fault { IfErr result (IsFault kind bytes.now) }
@@ -82,7 +88,7 @@ fn copy_body(alloc: Global, found: MessageSpans, bytes: &[u8]) -> Result<Vec<u8>
 }
 
 // The request whose parts are there.
-fn copy_request(
+pub fn copy_request(
     alloc: Global,
     bytes: &[u8],
     method: Span,

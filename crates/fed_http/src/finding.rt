@@ -6,6 +6,7 @@ ghost use Rattle.fed_http.specs.Limits.{max_fields};
 ghost use Rattle.fed_http.specs.Faults.{IsFault};
 ghost use Rattle.fed_http.specs.Waiting.{IsWaiting};
 ghost use Rattle.fed_http.specs.FoundParts.{IsSomeFoundAt, IsBodyAt, LacksBody, IsBodyFault, IsFramedAs};
+ghost use Rattle.fed_http.specs.KeepingParts.{IsFramedAt, LacksHead};
 
 use crate::chunks::{Extent, find_chunked};
 use crate::fault::HttpFault;
@@ -38,6 +39,35 @@ pub fn find_message(
     ensures waiting { IfOk result (λ found. IfNone found (IsWaiting kind bytes.now)) }
     ensures fault { IfErr result (λ fault. (fault ≢ HttpFault.Memory) × IsFault kind bytes.now fault) }
 {
+    let Some((head, framing)) = find_framed(kind, bytes, fields)? else {
+        return Ok(None);
+    };
+    match find_body(framing, &bytes[head.len..])? {
+        Some(body) => Ok(Some(MessageSpans {
+            head,
+            framing,
+            body,
+        })),
+        None => Ok(None),
+    }
+}
+
+/// The head at the front of the bytes, whose fields are written to `fields`, and how the end of its body is found; `None` where it isn't
+/// whole yet.
+///
+/// # Errors
+///
+/// `BadHead`, `TooLarge` and `BadLength`.
+pub fn find_framed(
+    kind: Kind,
+    bytes: &[u8],
+    fields: &mut [HeaderSpan],
+) -> Result<Option<(HeadSpans, Framing)>, HttpFault>
+    requires room { length fields.old ≡ max_fields }
+    ensures found { IfOk result (λ found. IfSome found (λ found. IsFramedAt kind bytes.now fields.new found.0 found.1)) }
+    ensures unfinished { IfOk result (λ found. IfNone found (LacksHead kind bytes.now)) }
+    ensures fault { IfErr result (λ fault. (fault ≢ HttpFault.Memory) × IsFault kind bytes.now fault) }
+{
     let front = window(bytes);
     let Some(head) = find_head(kind, front, fields)? else {
         return if bytes.len() < MAX_HEAD {
@@ -47,14 +77,7 @@ pub fn find_message(
         };
     };
     let framing = framing_of_head(front, &fields[..head.fields], head.start)?;
-    match find_body(framing, &bytes[head.len..])? {
-        Some(body) => Ok(Some(MessageSpans {
-            head,
-            framing,
-            body,
-        })),
-        None => Ok(None),
-    }
+    Ok(Some((head, framing)))
 }
 
 // How the end of the body is found.

@@ -15,7 +15,9 @@
 //! - `framing`: `Framing`, how the end of a body is found
 //! - `chunks`: the chunks of a body
 //! - `finding`: where a message ends, found without memory
-//! - `copying`: from the bytes of a message to its owned parts
+//! - `copying`: `read_message`, from all the bytes of a message to its owned parts
+//! - `opening`: from the bytes of a head to its owned parts
+//! - `place`, `state`: where in a message the bytes so far end, and what is kept of them
 //! - `reader`: `Reader`, which reads messages from a stream of pieces
 //! - `laws`: what holds of all messages and their texts
 //! - `writing`: from messages to their bytes, and `phrase`, the phrase of a status
@@ -33,14 +35,18 @@ mod head;
 mod laws;
 mod limits;
 mod message;
+mod opening;
+mod place;
 mod reader;
 mod reply;
 mod request;
 mod sending;
+mod state;
 mod unfinished;
 mod writing;
 mod x_matrix;
 
+pub use copying::read_message;
 pub use fault::HttpFault;
 pub use field::Field;
 pub use framing::Framing;

@@ -17,3 +17,18 @@ pub enum Message {
     Request(Request),
     Reply(Reply),
 }
+
+impl Message {
+    ghost use Rattle.std.specs.Prelude.{◌≡◌};
+    ghost use Rattle.fed_http.specs.Keeping.{with_body};
+
+    /// The same with this body. It takes no memory.
+    pub fn with_body(self, body: Vec<u8>) -> Message
+        ensures { result ≡ with_body self body.items }
+    {
+        match self {
+            Message::Request(request) => Message::Request(request.with_body(body)),
+            Message::Reply(reply) => Message::Reply(Reply::new(reply.status(), body)),
+        }
+    }
+}

@@ -1,12 +1,12 @@
 // A reader of a stream of messages.
-ghost use Rattle.std.specs.Prelude.{◌≡◌, ◌≢◌, [], ◌++◌, List, ℕ, true, false, Ok, Err, IfOk, IfSome, IfNone};
+ghost use Rattle.std.specs.Prelude.{◌≡◌, ◌≢◌, ◌+◌, ◌≤◌, [], ◌++◌, List, ℕ, length, true, false, Ok, Err, IfOk, IfSome, IfNone};
 ghost use Rattle.fed_http.specs.Faults.{IsFault, IsBadHead, IsTooLarge, IsBadLength, IsBadChunk};
 ghost use Rattle.fed_http.specs.declared.fault.HttpFault.{HttpFault};
 ghost use Rattle.fed_http.specs.Reader.{StandsFor, Gives, Waits, Fails, Stays, TellsOf};
 
-use crate::copying::read;
 use crate::fault::HttpFault;
 use crate::message::{Kind, Message};
+use crate::state::State;
 use std::alloc::Global;
 use std::marker::Model;
 
@@ -19,27 +19,27 @@ use std::marker::Model;
 /// - Of chunks the extensions are dropped, and so is the trailer, whose limits are those of a head (section 7.1). A chunk line has at
 ///   most `MAX_HEAD` bytes. A body has at most `MAX_BODY`.
 ///
-/// It keeps the bytes since the last message, and looks at them anew with each piece. Bytes past a limit are not looked at.
+/// Of the bytes since the last message it keeps the head, the body so far, and a chunk line or a trailer that has not ended: `held` says how
+/// many bytes these are. With a piece it looks at most at so many of them again as a head may have. Bytes past a limit are not looked at.
 ///
 /// Contracts say of what it is given by the bytes that it stands for: those since it was made, or since it last gave a message. Some such
 /// bytes there are until it has failed.
 #[derive(Drop)]
 pub struct Reader {
     kind: Kind,
-    held: Vec<u8>,
+    state: State,
     has_failed: bool,
 }
 
 impl Model for Reader {
-    ghost use Rattle.std.specs.Prelude.{◌≡◌, false};
     ghost use Rattle.fed_http.specs.Reader.{Reading};
-    ghost use Rattle.fed_http.specs.Text.{HasNoText};
+    ghost use Rattle.fed_http.specs.KeepingParts.{kept_of, IsReading};
 
     ghost Value = { Reading };
 
-    ghost view = { λ r. record { kind = r.kind; held = r.held.items; has_failed = r.has_failed } };
+    ghost view = { λ r. record { kind = r.kind; kept = kept_of r.state; has_failed = r.has_failed } };
 
-    ghost invariant = { λ r. r.has_failed ≡ false → HasNoText r.kind r.held.items };
+    ghost invariant = { λ r. IsReading r.kind r.state r.has_failed };
 }
 
 impl Reader {
@@ -50,7 +50,7 @@ impl Reader {
     {
         Reader {
             kind: Kind::Requests,
-            held: Vec::new(alloc),
+            state: State::new(alloc),
             has_failed: false,
         }
     }
@@ -62,7 +62,7 @@ impl Reader {
     {
         Reader {
             kind: Kind::Replies,
-            held: Vec::new(alloc),
+            state: State::new(alloc),
             has_failed: false,
         }
     }
@@ -112,22 +112,24 @@ impl Reader {
         if self.has_failed {
             return Err(HttpFault::HasFailed);
         }
-        let before = self.held.len();
-        self.held.extend_from_slice(piece)?;
-        match read(alloc, self.kind, &self.held) {
-            Ok(Some((message, len))) => {
-                self.held.clear();
-                Ok((Some(message), len - before))
-            }
+        match self.state.take(alloc, self.kind, piece) {
+            Ok(Some(used)) => Ok((Some(self.state.give(alloc)), used)),
             Ok(None) => Ok((None, piece.len())),
-            Err(fault) if fault == HttpFault::Memory => {
-                self.held.truncate(before);
-                Err(HttpFault::Memory)
-            }
+            Err(fault) if fault == HttpFault::Memory => Err(HttpFault::Memory),
             Err(fault) => {
                 self.has_failed = true;
+                self.state.let_go(alloc);
                 Err(fault)
             }
         }
+    }
+
+    /// How many bytes of the stream are kept: those of the head, of the body so far, and of a chunk line or a trailer that has not ended. They
+    /// are at most 16,809,984: `MAX_BODY` and twice `MAX_HEAD`.
+    pub fn held(&self) -> usize
+        ensures kept { result ≡ length self.now.kept.text + length self.now.kept.body }
+        ensures bound { result ≤ 16809984 }
+    {
+        self.state.held()
     }
 }

@@ -41,6 +41,24 @@ impl Request {
         }
     }
 
+    /// The same request with this body. It takes no memory.
+    pub fn with_body(self, body: Vec<u8>) -> Request
+        ensures { result ≡ record { method = self.method; target = self.target; fields = self.fields; body = body.items } }
+    {
+        let Request {
+            method,
+            target,
+            fields,
+            body: _,
+        } = self;
+        Request {
+            method,
+            target,
+            fields,
+            body,
+        }
+    }
+
     /// The method, as `PUT`.
     pub fn method(&self) -> &str
         ensures { result.now ≡ self.now.method }

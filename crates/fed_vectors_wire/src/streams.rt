@@ -1,11 +1,14 @@
 // Calls on messages that are read from a stream.
 
-use fed_http::{Field, HttpFault, Message, Reader, Reply, Request};
+use fed_http::{Field, HttpFault, Kind, Message, Reader, Reply, Request, read_message};
 use fed_json::Json;
 use fed_vectors_call::{Answer, Arguments, List, Object, Stop, count, text, text_of_bytes};
 use std::alloc::Global;
 
-/// What a reader gave of a stream so far: its messages, how many bytes it has used, and why it cannot be read on.
+// How many bytes the pieces have in which each stream is read again.
+const SIZES: [usize; 4] = [1, 2, 3, 65_536];
+
+/// What was read of a stream so far: its messages, how many bytes these used, and why it cannot be read on.
 #[derive(Drop)]
 struct Feed {
     messages: List,
@@ -13,35 +16,72 @@ struct Feed {
     fault: Option<HttpFault>,
 }
 
-/// The messages of a stream, each with the place behind it, and how the stream ends.
+/// The messages of a stream, each with the place behind it, and how the stream ends: the same in pieces of any size, and of all its bytes
+/// at once.
 pub fn stream(call: Arguments<'_>) -> Answer {
-    let mut reader = reader(call)?;
+    let kind = kind(call)?;
     let bytes = call.bytes()?;
-    let feed = feed_all(call, &mut reader, &bytes)?;
-    match feed.fault {
-        Some(fault) => failed(call.alloc, &mut reader, feed.messages, fault),
-        None => told(call.alloc, feed.messages, "open").into_answer(),
+    let told = fed(call.alloc, kind, &pieces(call, &bytes)?)?;
+    for size in SIZES {
+        let pieces = pieces_of(call.alloc, &bytes, size)?;
+        if told != fed(call.alloc, kind, &pieces)? {
+            return Err(Stop::error(format!(in call.alloc; "cut otherwise")));
+        }
     }
+    if told != read_plainly(call.alloc, kind, &bytes)? {
+        return Err(Stop::error(format!(in call.alloc; "the readers differ")));
+    }
+    Ok(told)
 }
 
-fn reader(call: Arguments<'_>) -> Result<Reader, Stop> {
+fn kind(call: Arguments<'_>) -> Result<Kind, Stop> {
     match call.text("kind")? {
-        "requests" => Ok(Reader::requests(call.alloc)),
-        "replies" => Ok(Reader::replies(call.alloc)),
+        "requests" => Ok(Kind::Requests),
+        "replies" => Ok(Kind::Replies),
         _ => Err(call.wrong_kind("kind")),
     }
 }
 
-fn feed_all(call: Arguments<'_>, reader: &mut Reader, bytes: &[u8]) -> Result<Feed, Stop> {
-    let mut feed = Feed {
-        messages: List::new(call.alloc),
+// What a reader gives of the pieces.
+fn fed(alloc: Global, kind: Kind, pieces: &[&[u8]]) -> Answer {
+    let mut reader = match kind {
+        Kind::Requests => Reader::requests(alloc),
+        Kind::Replies => Reader::replies(alloc),
+    };
+    let mut feed = begun(alloc);
+    for piece in pieces {
+        feed = with_piece(alloc, &mut reader, feed, piece)?;
+    }
+    match feed.fault {
+        Some(_) => told(alloc, feed, reader.feed(alloc, b"").err()),
+        None => told(alloc, feed, None),
+    }
+}
+
+// What the plain reader gives of all the bytes. Each message takes at least a byte.
+fn read_plainly(alloc: Global, kind: Kind, bytes: &[u8]) -> Answer {
+    let mut feed = begun(alloc);
+    let mut left = bytes;
+    for _ in bytes {
+        match read_message(alloc, kind, left) {
+            Ok(Some((message, len))) => {
+                feed = given(alloc, feed, Some(message), len);
+                left = left.get(len..).unwrap_or(b"");
+            }
+            Ok(None) => break,
+            Err(HttpFault::Memory) => return Err(Stop::Memory),
+            Err(fault) => return told(alloc, faulty(feed, fault), Some(HttpFault::HasFailed)),
+        }
+    }
+    told(alloc, feed, None)
+}
+
+fn begun(alloc: Global) -> Feed {
+    Feed {
+        messages: List::new(alloc),
         used: 0,
         fault: None,
-    };
-    for piece in &pieces(call, bytes)? {
-        feed = with_piece(call.alloc, reader, feed, piece)?;
     }
-    Ok(feed)
 }
 
 // The pieces between the places of `cuts`, or the whole.
@@ -59,6 +99,15 @@ fn pieces<'a>(call: Arguments<'_>, bytes: &'a [u8]) -> Result<Vec<&'a [u8]>, Sto
     match bytes.get(start..) {
         Some(piece) => pieces.push(piece)?,
         None => return Err(call.wrong_kind("cuts")),
+    }
+    Ok(pieces)
+}
+
+// The pieces of so many bytes each.
+fn pieces_of(alloc: Global, bytes: &[u8], size: usize) -> Result<Vec<&[u8]>, Stop> {
+    let mut pieces = Vec::new(alloc);
+    for piece in bytes.chunks(size.max(1)) {
+        pieces.push(piece)?;
     }
     Ok(pieces)
 }
@@ -164,20 +213,29 @@ fn pair(alloc: Global, field: &Field) -> Answer {
         .into_answer()
 }
 
-fn told(alloc: Global, messages: List, end: &str) -> Object {
+// What was read, and of a stream that ends in a fault what the reader says from then on.
+fn told(alloc: Global, feed: Feed, again: Option<HttpFault>) -> Answer {
+    let Feed {
+        messages,
+        fault,
+        ..
+    } = feed;
+    let Some(fault) = fault else {
+        return Object::new(alloc)
+            .with("end", text(alloc, "open"))
+            .with("messages", messages.into_answer())
+            .into_answer();
+    };
     Object::new(alloc)
-        .with("end", text(alloc, end))
+        .with("again", name_of(alloc, again))
+        .with("end", name_of(alloc, Some(fault)))
         .with("messages", messages.into_answer())
+        .into_answer()
 }
 
-// The fault that a stream ends in, and the one that the reader tells from then on.
-fn failed(alloc: Global, reader: &mut Reader, messages: List, fault: HttpFault) -> Answer {
-    let end = format!(in alloc; "{fault}")?;
-    let again = match reader.feed(alloc, b"") {
-        Ok(_) => String::from_str(alloc, "none")?,
-        Err(fault) => format!(in alloc; "{fault}")?,
-    };
-    told(alloc, messages, &end)
-        .with("again", Ok(Json::from(again)))
-        .into_answer()
+fn name_of(alloc: Global, fault: Option<HttpFault>) -> Answer {
+    match fault {
+        Some(fault) => Ok(Json::from(format!(in alloc; "{fault}")?)),
+        None => text(alloc, "none"),
+    }
 }

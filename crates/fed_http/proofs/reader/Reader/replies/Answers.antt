@@ -1,11 +1,11 @@
-use Rattle.std.proofs.Common.{subst, sym, refl}
-use Rattle.fed_http.specs.Text.{HasNoText}
+use Rattle.std.proofs.Common.{refl}
 use Rattle.fed_http.specs.declared.message.Kind.TheVariants.{Replies}
 use Rattle.fed_http.proofs.Feeds.{empty_has_no_text}
+use Rattle.fed_http.proofs.Kept.{begins_sound}
 use Rattle.fed_http.proofs.reader.Reader.replies.Goals as goal
 
 pub invariant_of-result : goal.invariant_of-result
-invariant_of-result c fresh = subst (HasNoText Replies) (sym c.new.ensures.items) (empty_has_no_text Replies)
+invariant_of-result c = begins_sound Replies c.new.result c.new.ensures.kept c.new.ensures.place
 
 pub returns-clause-stands : goal.returns-clause-stands
-returns-clause-stands c = record { live = refl; none = empty_has_no_text Replies; held = c.new.ensures.items }
+returns-clause-stands c = record { live = refl; none = empty_has_no_text Replies; kept = c.new.ensures.kept Replies }

@@ -1,0 +1,161 @@
+-- The trailer, as its bytes come.
+use Rattle.std.proofs.Common.{arith, ◌≡◌, ◌≢◌, ℕ, ◌+◌, ◌-◌, ◌<◌, ◌≤◌, List, [], ◌∷◌, ◌++◌, length, take, drop, All, refl, sym, ap, subst, ◌∙◌, append_assoc, append-nil, length-append, inl, inr}
+use Rattle.std.proofs.lemmas.Bool.{cases_lt}
+use Rattle.std.proofs.lemmas.List.{length-drop}
+use Rattle.std.specs.Coded.{×_prop, le_prop}
+use Rattle.std.proofs.Math.Logic.{∥∥₁_elim}
+use Rattle.httparse.specs.Grammar.{print_chunk_line, Field, LineEnd, print_section, HasNoSection}
+use Rattle.httparse.proofs.PieceLemmas.{front-append}
+use Rattle.fed_http.specs.Limits.{max_head, max_body}
+use Rattle.fed_http.specs.Head.{print_head, message_of}
+use Rattle.fed_http.specs.Body.{IsTrailer, ChunkedBody, print_chunks, print_chunked, chunk_data}
+use Rattle.fed_http.specs.Unfinished.{trailer_front}
+use Rattle.fed_http.specs.Faults.{ReachesBody, ReachesTrailer, no_trailer, IsFault, trailers, large_trailer}
+use Rattle.fed_http.specs.ChunkParts.{IsTrailerAt, LacksTrailer, IsTrailerFault}
+use Rattle.fed_http.specs.Waiting.{IsWaiting}
+use Rattle.fed_http.specs.Keeping.{Kept, IsKeptAt, IsInTrailer, HasEnded}
+use Rattle.fed_http.specs.KeepingParts.{IsSound}
+use Rattle.fed_http.specs.declared.fault.HttpFault.{HttpFault}
+use Rattle.fed_http.specs.declared.fault.HttpFault.TheVariants.{Memory, BadHead, TooLarge, BadLength, BadChunk, HasFailed}
+use Rattle.fed_http.specs.declared.framing.Framing.TheVariants.{Chunked}
+use Rattle.fed_http.specs.declared.message.Kind.{Kind}
+use Rattle.fed_http.specs.declared.place.Place.TheVariants.{InTrailer}
+use Rattle.fed_http.proofs.LineCounts.{front_in}
+use Rattle.fed_http.proofs.TrailerFronts.{front-section}
+use Rattle.fed_http.proofs.Stays.{reaches_on, trailer_on}
+use Rattle.fed_http.proofs.Keeping.{split_front, text_more, line_is_behind, chunks_more, chunks_as, chunks_reach, reaches_trailer, trailer_waits}
+use Rattle.fed_http.proofs.BodySteps.{with_body_is}
+
+slice_is : (kind : Kind) (k : Kept) (bytes more all slice : List ℕ) (x : IsInTrailer kind k bytes) → all ≡ k.text ++ more → slice ≡ drop k.head all → slice ≡ x.line ++ more
+slice_is kind k bytes more all slice x text is =
+    let h = x.keeps.keeps in
+    is ∙ line_is_behind kind k bytes Chunked x.line x.keeps.rest all (x.line ++ more) k.head h refl (text_more kind k bytes more Chunked x.line x.keeps.rest all h text)
+
+length_line : (kind : Kind) (k : Kept) (bytes : List ℕ) (x : IsInTrailer kind k bytes) → length k.text ≡ k.head + length x.line
+length_line kind k bytes x = omega (arith, ap length x.keeps.keeps.text, x.keeps.keeps.len, length-append (print_head x.keeps.keeps.head) x.line)
+
+length_section : (slice : List ℕ) (len : ℕ) (t : IsTrailerAt slice len) → len ≡ length (print_section t.fields t.end)
+length_section slice len t = omega (arith, ap length t.whole, length-append (print_section t.fields t.end) (drop len slice), length-drop len slice, t.fits)
+
+-- a trailer that is found ends behind the bytes that were there
+trailer_beyond : (line more r : List ℕ) (fields : List Field) (end : LineEnd) → HasNoSection (trailer_front line) → IsTrailer fields end → line ++ more ≡ print_section fields end ++ r → length line < length (print_section fields end)
+trailer_beyond line more r fields end none trailer e = elim (cases_lt (length line) (length (print_section fields end))) [
+  | inl less ↦ less
+  | inr le ↦
+      let x = front_in line more (print_section fields end) r e le in
+      let y = front-section line fields end x.0 trailer.valid trailer.few trailer.short x.1 in
+      absurd (none fields end y.0 (trailer.valid, y.1))
+]
+
+-- ---- what is known of any bytes
+
+pub record TrailerRoom (k : Kept) : Type 0 where
+  pub head : k.head ≤ length k.text
+  pub line : length k.text < k.head + max_head
+
+pub trailer_room : (k : Kept) → k.place ≡ InTrailer → IsSound k → TrailerRoom k
+trailer_room k at sound =
+    let all = ∥∥₁_elim sound (×_prop le_prop le_prop) (λ (kind, (bytes, kept)).
+    let x : IsInTrailer kind k bytes = subst (λ p. IsKeptAt p kind k bytes) at kept in
+    let len = length_line kind k bytes x in
+    let a : k.head ≤ length k.text = omega (arith, len) in
+    let b : length k.text < k.head + max_head = omega (arith, len, x.few) in
+    (a, b)) in
+    record { head = all.0; line = all.1 }
+
+pub record TrailerEnds (k : Kept) (more : List ℕ) (len : ℕ) : Type 0 where
+  pub head : k.head ≤ length k.text
+  pub beyond : length k.text < k.head + len
+  pub within : k.head + len ≤ length k.text + length more
+
+pub trailer_ends_at : (k : Kept) (more all slice : List ℕ) (len : ℕ) → k.place ≡ InTrailer → IsSound k → all ≡ k.text ++ more → slice ≡ drop k.head all → IsTrailerAt slice len → TrailerEnds k more len
+trailer_ends_at k more all slice len at sound text is t =
+    let all_of = ∥∥₁_elim sound (×_prop le_prop le_prop) (λ (kind, (bytes, kept)).
+    let x : IsInTrailer kind k bytes = subst (λ p. IsKeptAt p kind k bytes) at kept in
+    let section = print_section t.fields t.end in
+    let whole : x.line ++ more ≡ section ++ drop len slice = sym (slice_is kind k bytes more all slice x text is) ∙ t.whole in
+    let beyond = trailer_beyond x.line more (drop len slice) t.fields t.end x.none t.trailer whole in
+    let size = length_section slice len t in
+    let length_is = length_line kind k bytes x in
+    let a : length k.text < k.head + len = omega (arith, length_is, beyond, size) in
+    let b : k.head + len ≤ length k.text + length more = omega (arith, length_is, size, ap length whole, length-append x.line more, length-append section (drop len slice)) in
+    (a, b)) in
+    record { head = (trailer_room k at sound).head; beyond = all_of.0; within = all_of.1 }
+
+-- ---- no end yet
+
+pub trailer_more : (kind : Kind) (k j : Kept) (bytes more slice : List ℕ) → IsInTrailer kind k bytes → j.start ≡ k.start → j.head ≡ k.head → j.body ≡ k.body → j.text ≡ k.text ++ more → slice ≡ drop k.head j.text → LacksTrailer slice
+    → IsInTrailer kind j (bytes ++ more) × IsWaiting kind (bytes ++ more)
+trailer_more kind k j bytes more slice x start head body text is lacks =
+    let at = subst LacksTrailer (slice_is kind k bytes more j.text slice x text is) lacks in
+    let printed = print_chunk_line x.last in
+    let read = chunks_more kind k j bytes more x.line (printed ++ x.line) (x.line ++ more) x.keeps start head (text_more kind k bytes more Chunked x.line x.keeps.rest j.text x.keeps.keeps text) in
+    let next = chunks_as kind j (bytes ++ more) (x.line ++ more) ((printed ++ x.line) ++ more) (printed ++ (x.line ++ more)) read (append_assoc printed x.line more) in (
+      record { last = x.last; is_last = x.is_last; line = x.line ++ more; keeps = next; body = body ∙ x.body; few = at.few; none = at.unended.none },
+      trailer_waits kind j (bytes ++ more) (x.line ++ more) x.last next x.is_last at,
+    )
+
+-- ---- faults
+
+pub trailer_fault : (kind : Kind) (k : Kept) (bytes more all slice : List ℕ) (fault : HttpFault) → IsInTrailer kind k bytes → all ≡ k.text ++ more → slice ≡ drop k.head all → IsTrailerFault slice fault → IsFault kind (bytes ++ more) fault
+trailer_fault kind k bytes more all slice fault x text is told =
+    let rest = x.keeps.rest ++ more in
+    let body = reaches_on kind bytes x.keeps.rest more Chunked (chunks_reach kind k bytes x.line (print_chunk_line x.last ++ x.line) x.keeps) in
+    let trailer = trailer_on x.keeps.rest x.line more (reaches_trailer kind k bytes x.line x.line x.last x.keeps x.is_last) in
+    by rest fault body trailer (subst (λ v. IsTrailerFault v fault) (slice_is kind k bytes more all slice x text is) told)
+  where
+    by : (rest : List ℕ) (f : HttpFault) → ReachesBody kind (bytes ++ more) Chunked rest → ReachesTrailer rest (x.line ++ more) → IsTrailerFault (x.line ++ more) f → IsFault kind (bytes ++ more) f
+    by rest Memory body trailer told = tt
+    by rest BadHead body trailer told = trailers rest body (record { rest = x.line ++ more; reaches = trailer; full = told })
+    by rest TooLarge body trailer told = large_trailer rest body (record { rest = x.line ++ more; reaches = trailer; full = told.0; unended = told.1 })
+    by rest BadLength body trailer told = absurd told
+    by rest BadChunk body trailer told = record { rest = rest; reaches = body; bad = no_trailer (x.line ++ more) trailer told }
+    by rest HasFailed body trailer told = absurd told
+
+pub trailer_fault_other : (slice : List ℕ) (fault : HttpFault) → IsTrailerFault slice fault → fault ≢ Memory
+trailer_fault_other slice Memory told e = told
+trailer_fault_other slice BadHead told e = cc
+trailer_fault_other slice TooLarge told e = cc
+trailer_fault_other slice BadLength told e = told
+trailer_fault_other slice BadChunk told e = cc
+trailer_fault_other slice HasFailed told e = told
+
+-- ---- its end
+
+pub trailer_ends : (kind : Kind) (k j : Kept) (bytes more all slice : List ℕ) (len : ℕ) → IsInTrailer kind k bytes → all ≡ k.text ++ more → slice ≡ drop k.head all → IsTrailerAt slice len → j.start ≡ k.start → j.body ≡ k.body
+    → HasEnded kind j (bytes ++ take (len - (length k.text - k.head)) more)
+trailer_ends kind k j bytes more all slice len x text is t start body =
+    let u = take (len - (length k.text - k.head)) more in
+    let h = x.keeps.keeps.head in
+    let cs = x.keeps.chunks in
+    let printed = print_chunk_line x.last in
+    let section = print_section t.fields t.end in
+    let whole : x.line ++ more ≡ section ++ drop len slice = sym (slice_is kind k bytes more all slice x text is) ∙ t.whole in
+    let beyond = trailer_beyond x.line more (drop len slice) t.fields t.end x.none t.trailer whole in
+    let count : length section - length x.line ≡ len - (length k.text - k.head) = omega (arith, length_section slice len t, length_line kind k bytes x) in
+    let ends : section ≡ x.line ++ u = split_front x.line more section (drop len slice) whole (omega (arith, beyond)) ∙ ap (λ n. x.line ++ take n more) count in
+    let b : ChunkedBody = record { chunks = cs; last = x.last; trailers = t.fields; end = t.end } in
+    let rest_is : x.keeps.rest ++ u ≡ print_chunked b =
+    front-append x.keeps.rest (print_chunks cs) (printed ++ x.line) u x.keeps.reads.whole ∙ grouped (print_chunks cs) printed x.line u ∙ ap (λ v. (print_chunks cs ++ printed) ++ v) (sym ends) in
+    record {
+      message = message_of h [];
+      start = start ∙ x.keeps.keeps.start;
+      text = record {
+        head = h;
+        framing = Chunked;
+        body = j.body;
+        body_text = print_chunked b;
+        valid = x.keeps.keeps.valid;
+        within = x.keeps.keeps.within;
+        final = x.keeps.keeps.final;
+        framed = x.keeps.keeps.framed;
+        is_body = (b, record { chunks = x.keeps.reads.valid; last = x.is_last; trailer = t.trailer }, body ∙ x.body, refl);
+        body_fits = omega (arith, ap length body, ap length x.body, x.keeps.reads.fits);
+        message_is = with_body_is h j.body;
+        text_is = front-append bytes (print_head h) x.keeps.rest u x.keeps.keeps.whole ∙ ap (λ v. print_head h ++ v) rest_is;
+      };
+      fits = omega (arith, ap length body, ap length x.body, x.keeps.reads.fits);
+    }
+  where
+    grouped : (a b c d : List ℕ) → a ++ ((b ++ c) ++ d) ≡ (a ++ b) ++ (c ++ d)
+    grouped a b c d = simp append_assoc
