@@ -4,11 +4,11 @@ use Rattle.std.specs.Prelude.{codes, slice_get}
 use Rattle.std.specs.List.{filter_map, cons_option}
 use Rattle.serde_json.specs.Data.{Data}
 use Rattle.fed_event.specs.Tests.{holds}
-use Rattle.fed_event.specs.Fields.{auth_events_of, content_of}
+use Rattle.fed_event.specs.Fields.{content_of}
 use Rattle.fed_room_contract.specs.declared.graph.Stored.{Stored}
 use Rattle.fed_auth.specs.AuthState.{stands_at, is_create}
 use Rattle.fed_auth.specs.StateView.{creator_in}
-use Rattle.fed_resolve.specs.Chain.{place_of, auths_of}
+use Rattle.fed_resolve.specs.Chain.{auths_at}
 use Rattle.fed_resolve.specs.PowerOrder.{event_of, first_auth, create_read, levels_read}
 use Rattle.fed_resolve.specs.LevelsParts.{auth_by, create_by, levels_by}
 
@@ -28,24 +28,21 @@ map-twice : {X Y Z : Type 0} (f : X → Y) (g : Y → Z) (o : Option X) → opti
 map-twice f g None = refl
 map-twice f g (Some x) = refl
 
-module _ (events : List Stored) (place : ℕ) (stored : Stored) (here : slice_get events place ≡ Some stored) where
-  first-auth : (kind key : List ℕ) → option_map event_of (first_auth events place kind key) ≡ auth_by events (event_of stored) kind key
-  first-auth kind key =
-      ap (option_map event_of)
-      (ap (λ o. find (stands_at kind key) (filter_map (slice_get events) (auths_of events o))) here
-      ∙ find-mapped events (stands_at kind key) (filter_map (place_of events) (auth_events_of (event_of stored))))
+module _ (events : List Stored) (place : ℕ) (stored : Stored) where
+  first-auth : (kind key : List ℕ) → option_map event_of (first_auth events place kind key) ≡ auth_by events place kind key
+  first-auth kind key = ap (option_map event_of) (find-mapped events (stands_at kind key) (auths_at events place))
 
-  create-read : create_read events place stored ≡ create_by events (event_of stored)
+  create-read : create_read events place stored ≡ create_by events place (event_of stored)
   unfolding is_create
   create-read = ap (λ o. cond (is_create stored) (Some (event_of stored)) o) (first-auth (codes "m.room.create") [])
 
-  levels-content : option_map (λ auth. content_of (event_of auth)) (first_auth events place (codes "m.room.power_levels") []) ≡ option_map content_of (auth_by events (event_of stored) (codes "m.room.power_levels") [])
+  levels-content : option_map (λ auth. content_of (event_of auth)) (first_auth events place (codes "m.room.power_levels") []) ≡ option_map content_of (auth_by events place (codes "m.room.power_levels") [])
   levels-content =
       sym (map-twice event_of content_of (first_auth events place (codes "m.room.power_levels") []))
       ∙ ap (option_map content_of) (first-auth (codes "m.room.power_levels") [])
 
   -- the levels that the event at the place reads
-  pub levels-read : levels_read events place stored ≡ levels_by events (event_of stored)
+  pub levels-read : levels_read events place stored ≡ levels_by events place (event_of stored)
   levels-read =
       ap (λ (content : Option Data). record { content = content; creator = option_and_then creator_in (create_read events place stored) }) levels-content
-      ∙ ap (λ (create : Option Data). record { content = option_map content_of (auth_by events (event_of stored) (codes "m.room.power_levels") []); creator = option_and_then creator_in create }) create-read
+      ∙ ap (λ (create : Option Data). record { content = option_map content_of (auth_by events place (codes "m.room.power_levels") []); creator = option_and_then creator_in create }) create-read

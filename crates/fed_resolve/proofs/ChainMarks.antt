@@ -9,8 +9,8 @@ use Rattle.std.proofs.Math.Seq.{drop-cons}
 use Rattle.std.proofs.Math.ListN.{length-take}
 use Rattle.fed_event.specs.Fields.{auth_events_of, prev_events_of}
 use Rattle.fed_room_contract.specs.declared.graph.Stored.{Stored}
-use Rattle.fed_room_contract.specs.Graph.{IsGraph, has_id, is_stored}
-use Rattle.fed_resolve.specs.Chain.{is_in_chains, auths_at, auths_of, place_of, IsInChain, is_reached, is_in_chain}
+use Rattle.fed_room_contract.specs.Graph.{IsGraph, has_id, is_stored, links_in, auth_links}
+use Rattle.fed_resolve.specs.Chain.{is_in_chains, auths_at, place_of, IsInChain, is_reached, is_in_chain}
 use Rattle.fed_resolve.specs.Chain.IsInChain.{named, further}
 use Rattle.fed_resolve.specs.Marks.{AreMarks}
 use Rattle.fed_resolve.specs.ChainParts.{AreClosedFrom, is_marked, or_among, or_auths, is_auth}
@@ -71,7 +71,7 @@ module _ (events : List Stored) (graph : IsGraph events) where
   auth_below p a h = by (slice_get_cases events p).1
     where
       by : ((x : Stored) × (p < length events) × (slice_get events p ≡ Some x) × (slice_index_or events p x ≡ x)) ⊎ ((length events ≤ p) × (slice_get events p ≡ None)) → (a < p) × (p < length events)
-      by (inr (past, none)) = let empty : list_any (λ b. eqb b a) (auths_of events None) ≡ true = ap (λ o. list_any (λ b. eqb b a) (auths_of events o)) (sym none) ∙ h in absurd (cc)
+      by (inr (past, none)) = let empty : list_any (λ b. eqb b a) (links_in (auth_links events) None) ≡ true = ap (λ o. list_any (λ b. eqb b a) (links_in (auth_links events) o)) (sym none) ∙ h in absurd (cc)
       by (inl (x, within, some, here)) = (omega (arith, below, length-take p events), within)
         where
           front : List Stored
@@ -87,7 +87,7 @@ module _ (events : List Stored) (graph : IsGraph events) where
           ready = and_parts _ _ (sym (list_all-append (is_stored front) (prev_events_of x.event.event) (auth_events_of x.event.event)) ∙ (graph.each front x (drop (suc p) events) split).ready)
 
           named_here : list_any (λ b. eqb b a) (filter_map (place_of (front ++ back)) (auth_events_of x.event.event)) ≡ true
-          named_here = ap (λ es. list_any (λ b. eqb b a) (filter_map (place_of es) (auth_events_of x.event.event))) (sym split) ∙ ap (λ o. list_any (λ b. eqb b a) (auths_of events o)) (sym some) ∙ h
+          named_here = ap (λ es. list_any (λ b. eqb b a) (filter_map (place_of es) (auth_events_of x.event.event))) (sym split) ∙ ap (λ o. list_any (λ b. eqb b a) (links_in (auth_links events) o)) (sym some) ∙ h
 
           below : a < length front
           below = in_front front back (auth_events_of x.event.event) a ready.1 named_here

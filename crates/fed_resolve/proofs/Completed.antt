@@ -13,14 +13,14 @@ use Rattle.fed_event.specs.Fields.{auth_events_of}
 use Rattle.fed_room_contract.specs.declared.rule.Rule.{Rule}
 use Rattle.fed_room_contract.specs.declared.graph.Stored.{Stored}
 use Rattle.fed_room_contract.specs.State.{StateKey, StateMap, key_cmp, with_entry}
-use Rattle.fed_room_contract.specs.Graph.{has_id, id_of, stored_at}
+use Rattle.fed_room_contract.specs.Graph.{has_id, id_of, stored_at, links_in, auth_links}
 use Rattle.fed_room_contract.proofs.Positions.{find-position, find-no_position}
 use Rattle.fed_room_contract.proofs.Filled.{tied}
 use Rattle.fed_room_contract.proofs.States.{key_cmp_total, key_cmp_same}
 use Rattle.fed_auth.specs.AuthState.{is_rejected, stands_at, stored_of, with_stored}
 use Rattle.fed_auth.specs.Allowed.{allowed_of}
 use Rattle.fed_auth.specs.Selection.{entry_of, selector_of, selection_keys}
-use Rattle.fed_resolve.specs.Chain.{place_of, auths_of}
+use Rattle.fed_resolve.specs.Chain.{place_of}
 use Rattle.fed_resolve.specs.Checks.{with_auth, with_key, with_keys, laid_over, check_stored, check}
 use Rattle.fed_resolve.specs.ChecksParts.{id_unless_rejected, auth_id_at, known_at, with_known, has_selected, IsSelected}
 
@@ -227,7 +227,7 @@ module _ (events : List Stored) (state : StateMap) (place : ℕ) (stored : Store
   check-is : laid_over state stored verdict ≡ check events state place
   check-is =
       ap (λ auths. laid_over state stored (allowed_of events stored.event (with_keys auths state (selection_keys (selector_of stored.event.event)))))
-      (sym (ap (λ o. filter_map (slice_get events) (auths_of events o)) there ∙ at_places events (auth_events_of stored.event.event)))
+      (sym (ap (λ o. filter_map (slice_get events) (links_in (auth_links events) o)) there ∙ at_places events (auth_events_of stored.event.event)))
       ∙ sym (ap (check_stored events state place) there)
 
   pub check-laid : (r : Result ⊤ Rule) → r ≡ verdict → is_ok r ≡ true → with_stored state stored ≡ check events state place

@@ -9,9 +9,9 @@ use Rattle.std.proofs.Math.Seq.{drop-cons}
 use Rattle.std.specs.List.{list_any, list_all, filter_map, cons_option, slice_get, slice_index_or, position_or_len}
 use Rattle.fed_event.specs.Fields.{auth_events_of, prev_events_of}
 use Rattle.fed_room_contract.specs.declared.graph.Stored.{Stored}
-use Rattle.fed_room_contract.specs.Graph.{IsGraph, has_id, is_stored, is_ready}
+use Rattle.fed_room_contract.specs.Graph.{IsGraph, has_id, is_stored, is_ready, links_in, auth_links}
 use Rattle.fed_room_contract.proofs.Graphs.{ready_stays, graph_front}
-use Rattle.fed_resolve.specs.Chain.{auths_at, auths_of, place_of, IsInChain, is_in_chain}
+use Rattle.fed_resolve.specs.Chain.{auths_at, place_of, IsInChain, is_in_chain}
 use Rattle.fed_resolve.specs.Chain.IsInChain.{named, further}
 use Rattle.fed_resolve.proofs.Agreement.{filter_map-agree}
 use Rattle.fed_resolve.proofs.ChainMarks.{auth_below, same_by, chain-from_test, chain-to_test}
@@ -102,9 +102,9 @@ module _ (events more : List Stored) (graph : IsGraph (events ++ more)) where
       λ i. cons_option (place-same events more id parts.0 i) (places-same ids parts.1 i)
 
   pub auths-same : (p : ℕ) → p < length events → auths_at (events ++ more) p ≡ auths_at events p
-  auths-same p below = ap (auths_of (events ++ more)) (slice_get-front events more p below) ∙ by (slice_get events p) refl
+  auths-same p below = ap (links_in (auth_links (events ++ more))) (slice_get-front events more p below) ∙ by (slice_get events p) refl
     where
-      by : (o : Option Stored) → slice_get events p ≡ o → auths_of (events ++ more) o ≡ auths_of events o
+      by : (o : Option Stored) → slice_get events p ≡ o → links_in (auth_links (events ++ more)) o ≡ links_in (auth_links events) o
       by None e = refl
       by (Some x) e = places-same (auth_events_of x.event.event) (auths_stored events front p x e)
 

@@ -1,11 +1,11 @@
 -- Words of marks: their bits, and what a walk makes of them.
-use Rattle.std.proofs.Common.{◌≡◌, ◌<◌, ◌≤◌, ◌+◌, ◌-◌, ◌^◌, ℕ, zero, suc, List, [], ◌∷◌, Bool, true, false, true≢false, not, ◌||◌, ◌&&◌, eqb, max, nat_lt, Option, None, Some, All, Contains, length, map, set, get_or, refl, sym, ap, subst, ◌∙◌, ◌⊎◌, inl, inr, arith}
+use Rattle.std.proofs.Common.{◌≡◌, ◌<◌, ◌≤◌, ◌+◌, ◌-◌, ◌^◌, ℕ, zero, suc, List, [], ◌∷◌, Bool, true, false, true≢false, not, ◌||◌, ◌&&◌, eqb, max, nat_lt, Option, None, Some, All, Contains, length, map, set, take, get_or, refl, sym, ap, subst, ◌∙◌, ◌⊎◌, inl, inr, arith}
 use Rattle.std.specs.List.{list_any, list_all, slice_get, slice_index_or}
 use Rattle.std.specs.Int.{bit_at}
 use Rattle.std.specs.Int.Bits.{bit_or}
 use Rattle.std.proofs.lemmas.Bool.{cases_eq, cases_lt, eq-eqb, ne_eqb, eqb-true, lt-ltb, le-ltb, or_left, or_right, true_from_ne_false, false_from_ne_true, not-true, not-false, not_from_true, not_from_false}
-use Rattle.std.proofs.lemmas.List.{get_or-map, get_or-set_same, get_or-set_other, get_or_default, length-map}
-use Rattle.std.proofs.lemmas.List.Folds.{list_any_at}
+use Rattle.std.proofs.lemmas.List.{get_or-map, get_or-set_same, get_or-set_other, get_or_default, length-map, length-set}
+use Rattle.std.proofs.lemmas.List.Folds.{list_any_at, list_any_more}
 use Rattle.std.proofs.lemmas.Nat.{pow_pos}
 use Rattle.std.proofs.lemmas.Nat.Bits.{bit_at-zero, bit_at-lt, bit_at_or, bit_at-pow_same, bit_at-pow_other, bit_at_ones, bit_at_ones_above, same_from_bits}
 use Rattle.std.proofs.lemmas.Option.{slice_get_cases, slice_get_past}
@@ -117,6 +117,19 @@ masked-next places masks bits p q below = by (cases_eq p q)
     by (inr n) =
         ap (with_bits bits (is_among places q)) (get_or-set_other masks p q new 0 (λ e. n (sym e)))
         ∙ sym (ap (λ t. with_bits bits (t || is_among places q) (get_or masks q 0)) (ne_eqb p q n))
+
+-- one more of some places
+pub masked-more : (count bits : ℕ) (places first masks : List ℕ) (i : ℕ) → i < length places → get_or places i 0 < count → AreMasked count (is_among (take i places)) bits first masks
+    → AreMasked count (is_among (take (i + 1) places)) bits first (set masks (get_or places i 0) (bit_or (get_or masks (get_or places i 0) 0) bits))
+masked-more count bits places first masks i inside below are = record {
+  long = length-set masks (get_or places i 0) _ ∙ are.long;
+  each = λ q within.
+      masked-next [] masks bits (get_or places i 0) q (omega (arith, are.long))
+      ∙ ap (λ t. with_bits bits t (get_or masks q 0)) (or_false (eqb (get_or places i 0) q))
+      ∙ ap (with_bits bits (eqb (get_or places i 0) q)) (are.each q within)
+      ∙ with_both bits (get_or first q 0) (is_among (take i places) q) (eqb (get_or places i 0) q)
+      ∙ ap (λ t. with_bits bits t (get_or first q 0)) (sym (list_any_more (λ p. eqb p q) places i 0 inside));
+}
 
 -- the marks of one bit
 is_marked-bit : (bit : ℕ) (masks : List ℕ) (q : ℕ) → q < length masks → is_marked (bit_marks bit masks) q ≡ has_bit bit (get_or masks q 0)

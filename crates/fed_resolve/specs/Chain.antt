@@ -1,12 +1,11 @@
 -- Auth chains (Matrix, room version 2, "State resolution", "Definitions"). The events of a room are named by their places in the list of
 -- those that are stored, counted from 0: an event names only earlier ones.
-use Rattle.std.specs.Prelude.{◌≡◌, ◌↔◌, ℕ, zero, suc, List, [], ◌∷◌, ◌++◌, Bool, false, true, ◌||◌, ◌==◌, Option, None, Some, length, filter, position, slice_get}
-use Rattle.std.specs.List.{list_any, filter_map}
+use Rattle.std.specs.Prelude.{◌≡◌, ◌↔◌, ℕ, zero, suc, List, [], ◌∷◌, ◌++◌, Bool, false, true, ◌||◌, ◌==◌, Option, length, filter, position}
+use Rattle.std.specs.List.{list_any}
 use Rattle.fed_event.specs.Tests.{holds}
-use Rattle.fed_event.specs.Fields.{auth_events_of}
 use Rattle.fed_room_contract.specs.declared.graph.Stored.{Stored}
 use Rattle.fed_room_contract.specs.State.{StateMap}
-use Rattle.fed_room_contract.specs.Graph.{has_id}
+use Rattle.fed_room_contract.specs.Graph.{has_id, auth_places_at}
 use Rattle.std.specs.FinMap as finite
 
 -- all places, in their order
@@ -22,13 +21,9 @@ members events test = filter test (places_below (length events))
 abbrev pub place_of : List Stored → List ℕ → Option ℕ
 place_of events id = position (has_id id) events
 
-abbrev pub auths_of : List Stored → Option Stored → List ℕ
-auths_of events None = []
-auths_of events (Some stored) = filter_map (place_of events) (auth_events_of stored.event.event)
-
 -- the auth events of the event at a place, in the order in which it names them
 abbrev pub auths_at : List Stored → ℕ → List ℕ
-auths_at events place = auths_of events (slice_get events place)
+auths_at events place = auth_places_at events place
 
 -- the auth chain of an event: its auth events, theirs, and so on
 pub data IsInChain (events : List Stored) : ℕ → ℕ → Type 0 where

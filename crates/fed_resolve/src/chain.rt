@@ -1,13 +1,10 @@
 // Auth chains.
 ghost use Rattle.std.specs.Prelude.{◌≡◌, ◌<◌, ℕ, false, All, IfOk, length};
-ghost use Rattle.std.specs.List.{filter_map};
-ghost use Rattle.fed_event.specs.EventIds.{ids_left};
 ghost use Rattle.fed_room_contract.specs.Graph.{IsGraph};
-ghost use Rattle.fed_resolve.specs.Chain.{is_in_chains, auths_at, place_of};
+ghost use Rattle.fed_resolve.specs.Chain.{is_in_chains, auths_at};
 ghost use Rattle.fed_resolve.specs.Marks.{AreMarks};
 ghost use Rattle.fed_resolve.specs.ChainParts.{AreClosedFrom, is_marked, or_among, or_auths};
 
-use fed_event::EventIds;
 use fed_json::NoMemory;
 use fed_room_contract::Graph;
 use std::alloc::Global;
@@ -66,23 +63,10 @@ fn mark_auths_of(graph: &Graph, places: &[usize], marks: &mut [bool])
 
 // Marks the auth events of the event at a place.
 fn mark_auths(graph: &Graph, place: usize, marks: &mut [bool])
-    requires place { place < length graph.now.stored }
-    requires long { length marks.old ≡ length graph.now.stored }
+    requires { length marks.old ≡ length graph.now.stored }
     ensures { AreMarks (length graph.now.stored) (or_among (auths_at graph.now.stored place) marks.old) marks.new }
 {
-    if let Some(stored) = graph.at(place) {
-        mark_all(graph, stored.event.event().auth_events(), marks);
-    }
-}
-
-// Marks the events of these ids that are stored.
-fn mark_all(graph: &Graph, ids: EventIds<'_>, marks: &mut [bool])
-    requires long { length marks.old ≡ length graph.now.stored }
-    ensures { AreMarks (length graph.now.stored) (or_among (filter_map (place_of graph.now.stored) (ids_left ids.entry)) marks.old) marks.new }
-{
-    for id in ids {
-        if let Some(place) = graph.place(id) {
-            marks[place] = true;
-        }
+    for auth in graph.auth_places(place) {
+        marks[*auth] = true;
     }
 }

@@ -1,13 +1,10 @@
 // Auth chains of several groups of events, found by one walk: a word for each place, and in it a bit for each group.
 ghost use Rattle.std.specs.Prelude.{◌≡◌, ◌<◌, ℕ, All, length};
-ghost use Rattle.std.specs.List.{filter_map};
-ghost use Rattle.fed_event.specs.EventIds.{ids_left};
-ghost use Rattle.fed_resolve.specs.Chain.{auths_at, place_of};
+ghost use Rattle.fed_resolve.specs.Chain.{auths_at};
 ghost use Rattle.fed_resolve.specs.ChainParts.{AreClosedFrom};
 ghost use Rattle.fed_resolve.specs.Order.{is_among};
 ghost use Rattle.fed_resolve.specs.MaskParts.{AreMasked, bit_marks, is_auth_of};
 
-use fed_event::EventIds;
 use fed_room_contract::Graph;
 
 // How many groups one walk tells apart: a word has a bit for each.
@@ -39,23 +36,10 @@ pub(crate) fn carry_down(graph: &Graph, to: usize, masks: &mut [u64])
 
 // Adds bits to the words of the auth events of the event at a place.
 pub(crate) fn mask_auths(graph: &Graph, place: usize, bits: u64, masks: &mut [u64])
-    requires place { place < length graph.now.stored }
-    requires long { length masks.old ≡ length graph.now.stored }
+    requires { length masks.old ≡ length graph.now.stored }
     ensures { AreMasked (length graph.now.stored) (is_among (auths_at graph.now.stored place)) bits masks.old masks.new }
 {
-    if let Some(stored) = graph.at(place) {
-        mask_all(graph, stored.event.event().auth_events(), bits, masks);
-    }
-}
-
-// Adds bits to the words of the events of these ids that are stored.
-fn mask_all(graph: &Graph, ids: EventIds<'_>, bits: u64, masks: &mut [u64])
-    requires long { length masks.old ≡ length graph.now.stored }
-    ensures { AreMasked (length graph.now.stored) (is_among (filter_map (place_of graph.now.stored) (ids_left ids.entry))) bits masks.old masks.new }
-{
-    for id in ids {
-        if let Some(place) = graph.place(id) {
-            masks[place] |= bits;
-        }
+    for auth in graph.auth_places(place) {
+        masks[*auth] |= bits;
     }
 }

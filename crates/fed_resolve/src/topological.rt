@@ -118,7 +118,7 @@ fn rank(graph: &Graph, place: usize) -> PowerRank<'_>
 {
     let event = graph.events()[place].event.event();
     Rank {
-        weight: Reverse(sender_level(graph, event)),
+        weight: Reverse(sender_level(graph, place, event)),
         time: event.origin_server_ts(),
         id: event.id(),
     }

@@ -9,3 +9,5 @@ pub mod Apart
 pub mod Extremities
 pub mod Stores
 pub mod WellFormed
+pub mod LinkLists
+pub mod GraphLinks

@@ -1,7 +1,7 @@
 -- The events that a room has stored, each with its verdict (Matrix, Server-Server API, "PDUs": events form a graph by the events that they
 -- name), found by their ids.
-use Rattle.std.specs.Prelude.{◌≡◌, ℕ, List, ◌∷◌, ◌++◌, Bool, true, false, Option, find}
-use Rattle.std.specs.List.{list_any, list_all}
+use Rattle.std.specs.Prelude.{◌≡◌, ℕ, List, [], ◌∷◌, ◌++◌, Bool, true, false, Option, None, Some, find, position, slice_get}
+use Rattle.std.specs.List.{list_any, list_all, filter_map}
 use Rattle.std.specs.Str.{bytes_eq}
 use Rattle.serde_json.specs.Data.{Data}
 use Rattle.fed_event.specs.EventId.{event_id_of}
@@ -19,6 +19,28 @@ stored_at events id = find (has_id id) events
 
 abbrev pub is_stored : List Stored → List ℕ → Bool
 is_stored events id = list_any (has_id id) events
+
+-- where the events of some ids are stored, of those that are
+abbrev pub places_of : List Stored → List (List ℕ) → List ℕ
+places_of events ids = filter_map (λ id. position (has_id id) events) ids
+
+-- where the auth events of an event are stored, and its prev events, in the order in which it names them
+abbrev pub auth_links : List Stored → Stored → List ℕ
+auth_links events stored = places_of events (auth_events_of stored.event.event)
+
+abbrev pub prev_links : List Stored → Stored → List ℕ
+prev_links events stored = places_of events (prev_events_of stored.event.event)
+
+-- the same of the event at a place; nothing where there is none
+abbrev pub links_in : (Stored → List ℕ) → Option Stored → List ℕ
+links_in links None = []
+links_in links (Some stored) = links stored
+
+abbrev pub auth_places_at : List Stored → ℕ → List ℕ
+auth_places_at events place = links_in (auth_links events) (slice_get events place)
+
+abbrev pub prev_places_at : List Stored → ℕ → List ℕ
+prev_places_at events place = links_in (prev_links events) (slice_get events place)
 
 -- the events that this one names
 abbrev pub named_by : Data → List (List ℕ)

@@ -1,9 +1,10 @@
 -- The graph that the fields of a `Graph` stand for, and how they hold together.
-use Rattle.std.specs.Prelude.{◌≡◌, ◌<◌, ℕ, List, Some, None, IsSome, IfSome, position, vec_len, vec_capacity}
+use Rattle.std.specs.Prelude.{◌≡◌, ◌<◌, ℕ, List, Some, None, IsSome, IfSome, map, position, vec_len, vec_capacity}
 use Rattle.std.specs.FinMap as finite
 use Rattle.fed_room_contract.specs.declared.graph.Graph.TheInside.{Inside}
 use Rattle.fed_room_contract.specs.Places.{place_at}
-use Rattle.fed_room_contract.specs.Graph.{has_id, IsGraph}
+use Rattle.fed_room_contract.specs.Graph.{has_id, IsGraph, auth_links, prev_links}
+use Rattle.fed_room_contract.specs.LinkParts.{AreLinks, HasRoomFor}
 use Rattle.fed_room_contract.specs.GraphState.{GraphState}
 
 abbrev pub graph_of : Inside → GraphState
@@ -14,4 +15,8 @@ pub record HoldsTogether (g : Inside) : Type 0 where
   pub entered : (id : List ℕ) → place_at g.places id ≡ position (has_id id) g.events.items
   pub spare : IfSome g.reserved (λ _. vec_len g.events < vec_capacity g.events)
   pub named : IfSome g.reserved (λ id. IsSome (finite.get g.places id))
+  pub auths : AreLinks (map (auth_links g.events.items) g.events.items) g.auths
+  pub prevs : AreLinks (map (prev_links g.events.items) g.events.items) g.prevs
+  pub spare_auths : IfSome g.reserved (λ _. HasRoomFor 10 g.auths)
+  pub spare_prevs : IfSome g.reserved (λ _. HasRoomFor 20 g.prevs)
   pub once : (id : List ℕ) → finite.get g.places id ≡ Some None → g.reserved ≡ Some id

@@ -6,6 +6,7 @@ pub mod Verdict
 pub mod Graph
 pub mod GraphState
 pub mod Places
+pub mod LinkParts
 pub mod GraphParts
 pub mod Draft
 pub mod DraftParts

@@ -1,9 +1,10 @@
 // The events that a room has stored.
-ghost use Rattle.std.specs.Prelude.{◌≡◌, ◌==◌, ◌++◌, ◌∷◌, [], Some, None, true, false, map, length, position, slice_get, option_map, IfSome, OnOk, OnErr, ◌<◌};
+ghost use Rattle.std.specs.Prelude.{◌≡◌, ◌==◌, ◌++◌, ◌∷◌, [], Some, None, true, false, map, length, position, slice_get, option_map, All, IfSome, OnOk, OnErr, ◌<◌};
 
+use crate::links::{Links, add_named};
 use crate::places::Places;
 use crate::verdict::Verdict;
-use fed_event::{Checked, EventId, EventIds, Pdu};
+use fed_event::{Checked, EventId, EventIds, MAX_AUTH_EVENTS, MAX_PREV_EVENTS, Pdu};
 use fed_json::NoMemory;
 use std::alloc::Global;
 use std::marker::Model;
@@ -23,6 +24,8 @@ pub struct Stored {
 pub struct Graph {
     events: Vec<Stored>,
     places: Places,
+    auths: Links,
+    prevs: Links,
     reserved: Option<EventId>,
 }
 
@@ -43,7 +46,7 @@ impl Graph {
     ghost use Rattle.fed_event.specs.EventId.{event_id_of};
     ghost use Rattle.fed_event.specs.EventIds.{ids_left};
     ghost use Rattle.std.specs.List.{list_all};
-    ghost use Rattle.fed_room_contract.specs.Graph.{IsGraph, has_id, stored_at, is_stored, is_ready as is_ready_in};
+    ghost use Rattle.fed_room_contract.specs.Graph.{IsGraph, has_id, stored_at, is_stored, auth_places_at, prev_places_at, is_ready as is_ready_in};
     ghost use Rattle.fed_room_contract.specs.GraphState.{with_event, with_room};
 
     /// The graph in which nothing is stored.
@@ -53,6 +56,8 @@ impl Graph {
         Graph {
             events: Vec::new(alloc),
             places: Places::new(alloc),
+            auths: Links::new(alloc),
+            prevs: Links::new(alloc),
             reserved: None,
         }
     }
@@ -99,6 +104,26 @@ impl Graph {
         ensures within { IfSome result (λ place. place < length self.now.stored) }
     {
         self.places.get(id)
+    }
+
+    /// The places of the auth events of the event at a place, in the order in which it names them: they were found once, when it was
+    /// stored. There are none where no event is stored there.
+    pub fn auth_places(&self, place: usize) -> &[usize]
+        ensures places { result.now ≡ auth_places_at self.now.stored place }
+        ensures before { All (λ auth. auth < place) result.now }
+        ensures within { All (λ auth. auth < length self.now.stored) result.now }
+    {
+        self.auths.get(place)
+    }
+
+    /// The places of the prev events of the event at a place, in the order in which it names them: they were found once, when it was
+    /// stored. There are none where no event is stored there.
+    pub fn prev_places(&self, place: usize) -> &[usize]
+        ensures places { result.now ≡ prev_places_at self.now.stored place }
+        ensures before { All (λ prev. prev < place) result.now }
+        ensures within { All (λ prev. prev < length self.now.stored) result.now }
+    {
+        self.prevs.get(place)
     }
 
     /// The event of this id.
@@ -148,6 +173,8 @@ impl Graph {
         ensures err { OnErr result (self.new ≡ self.old) }
     {
         self.events.reserve(1)?;
+        self.auths.reserve(MAX_AUTH_EVENTS)?;
+        self.prevs.reserve(MAX_PREV_EVENTS)?;
         let reserved = id.copy(alloc)?;
         self.places.make_room(alloc, id, self.reserved.as_ref())?;
         self.reserved = Some(reserved);
@@ -163,6 +190,12 @@ impl Graph {
         ensures stored { self.new ≡ with_event self.old (record { event = event; verdict = verdict }) }
     {
         let place = self.events.len();
+        add_named(
+            &mut self.auths,
+            &mut self.prevs,
+            &self.places,
+            event.event(),
+        );
         self.places.enter(event.event().id().as_str(), place);
         self.events.push(Stored { event, verdict }).unwrap();
         match self.reserved.take() {

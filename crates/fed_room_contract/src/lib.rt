@@ -6,6 +6,7 @@
 //! - `rule`: `Rule`, the number of an authorization rule
 //! - `verdict`: `Verdict`, what a room makes of an event
 //! - `places`: where stored events stand
+//! - `links`: the places of the events that each of them names
 //! - `graph`: `Graph`, the events that are stored, each with its verdict
 //! - `draft`: `Draft`, what a user wants to send
 //! - `prepared`: `Prepared`, the event that a room makes of a draft
@@ -29,6 +30,7 @@ mod graph;
 mod input;
 mod keyed;
 mod laws;
+mod links;
 mod places;
 mod prepared;
 mod receipt;

@@ -27,5 +27,5 @@ returns c =
         time = time ∙ c.origin_server_ts.ensures ∙ ap origin_server_ts_of event;
         id = c.id.ensures ∙ ap event_id_of event;
       };
-      level = c.sender_level.ensures ∙ ap (λ e. user_level (levels_by events e) (sender_of e)) event ∙ ap (λ levels. user_level levels (sender_of stored.event.event)) (sym (levels-read events c.args.place stored here));
+      level = c.sender_level.ensures ∙ ap (λ e. user_level (levels_by events c.args.place e) (sender_of e)) event ∙ ap (λ levels. user_level levels (sender_of stored.event.event)) (sym (levels-read events c.args.place stored));
     }

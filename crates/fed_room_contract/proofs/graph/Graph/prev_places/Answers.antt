@@ -1,0 +1,21 @@
+use Rattle.std.proofs.Common.{◌≡◌, ◌<◌, All, List, ℕ, map, length, sym, ap, subst, ◌∙◌}
+use Rattle.fed_room_contract.specs.declared.graph.Stored.{Stored}
+use Rattle.fed_room_contract.specs.Graph.{IsGraph, links_in, prev_links, prev_places_at}
+use Rattle.fed_room_contract.specs.GraphState.{GraphState}
+use Rattle.std.proofs.lemmas.List.Elements.{All-same}
+use Rattle.fed_room_contract.proofs.GraphLinks.{prevs-at, prevs-before, prevs-within}
+use Rattle.fed_room_contract.proofs.graph.Graph.prev_places.Goals as goal
+
+pub returns : goal.returns
+returns c =
+    let inside = c.self.inside.events.items in
+    let events = c.args.self.now.stored in
+    let stored : inside ≡ events = ap (λ (g : GraphState). g.stored) c.self.view_is in
+    let graph : IsGraph events = subst IsGraph stored c.self.invariant.graph in
+    let here =
+    c.get.ensures (map (prev_links inside) inside) c.self.invariant.prevs ∙ prevs-at inside c.args.place ∙ ap (λ (es : List Stored). prev_places_at es c.args.place) stored in
+    record {
+      places = here;
+      before = All-same (λ a. a < c.args.place) c.get.result.now (prev_places_at events c.args.place) here (prevs-before events c.args.place graph);
+      within = All-same (λ a. a < length events) c.get.result.now (prev_places_at events c.args.place) here (prevs-within events c.args.place graph);
+    }
