@@ -1,15 +1,17 @@
 -- What was entered of verdicts, and why verdicts can't be entered.
-use Rattle.std.proofs.Common.{◌≡◌, ℕ, ◌<◌, ◌≤◌, List, [], ◌∷◌, ◌++◌, map, length, take, get_or, Bool, true, false, cond, Option, Some, None, append-nil, refl, sym, ap, subst, ◌∙◌, arith}
+use Rattle.std.proofs.Common.{◌≡◌, ℕ, ◌<◌, ◌≤◌, List, [], ◌∷◌, ◌++◌, length, take, get_or, Bool, true, false, cond, Option, Some, None, append-nil, refl, sym, ap, subst, ◌∙◌, arith}
 use Rattle.std.specs.Str.{bytes_eq}
-use Rattle.std.specs.List.{All, filter, list_any}
-use Rattle.std.proofs.lemmas.List.{append_assoc, length-append, map-append, take_at, get_or_append_left}
-use Rattle.std.proofs.lemmas.List.Elements.{All-nil, All-cons, All-head, All-tail, All-append, All-weaker, filter-append}
-use Rattle.fed_replies.specs.declared.pieces.Failed.{Failed}
+use Rattle.std.specs.List.{All, list_any}
+use Rattle.std.proofs.lemmas.List.{append_assoc, length-append, take_at}
+use Rattle.std.proofs.lemmas.List.Elements.{All-nil, All-cons, All-head, All-tail, All-append}
 use Rattle.fed_replies.specs.HashId.{IsIdOf, IsHashId}
+use Rattle.fed_replies.specs.Marks.{large_for, mark_for}
 use Rattle.fed_replies.specs.Texts.{Texts, with_text}
 use Rattle.fed_replies.specs.TextTable.{IsNumberFor}
 use Rattle.fed_replies.specs.PackedReply.{Verdict, with_error, with_errors, AreFit}
-use Rattle.fed_replies.specs.Pieces.{Content, cut, mark_of, is_accepted, is_failed, accepted_verdict, failed_verdict, AreNumbered, AreEntered, IsEntry, IsFailedEntry, with_accepted, with_failed}
+use Rattle.fed_replies.specs.Pieces.{Content, cut, mark_of, AreNumbered, AreEntered, HasText, IsEntry, IsFailedEntry, verdict_by, verdicts_of, with_accepted, with_failed}
+use Rattle.fed_replies.proofs.MarkNumbers.{told, none_left, has_own}
+use Rattle.fed_replies.proofs.Events.{numbered-append, numbered-more, verdicts-append, verdicts-more}
 
 -- the list goes on so
 abbrev pub Begins : {X : Type 0} → List X → List X → Type 0
@@ -45,63 +47,44 @@ with_errors-append texts (v ∷ vs) ws = with_errors-append (with_error texts v.
 abbrev pub HasHashId : Verdict → Type 0
 HasHashId v = IsHashId v.0
 
-abbrev pub HasText : Texts → Failed → Type 0
-HasText texts f = f.text < length texts
-
-pub failed_verdicts-more : (texts more : Texts) (fs : List Failed) → AreNumbered texts fs → map (failed_verdict (texts ++ more)) fs ≡ map (failed_verdict texts) fs
-failed_verdicts-more texts more [] h = refl
-failed_verdicts-more texts more (f ∷ fs) h =
-    let same : failed_verdict (texts ++ more) f ≡ failed_verdict texts f = ap (λ t. failed_verdict_of f t) (get_or_append_left texts more [] f.text (All-head (HasText texts) f fs h)) in
-    let rest = failed_verdicts-more texts more fs (All-tail (HasText texts) f fs h) in
-    cc
-  where
-    failed_verdict_of : Failed → List ℕ → Verdict
-    failed_verdict_of g text = ((failed_verdict [] g).0, Some text)
-
-pub numbered-more : (texts others : Texts) (fs : List Failed) → length texts ≤ length others → AreNumbered texts fs → AreNumbered others fs
-numbered-more texts others fs le h = All-weaker (HasText texts) (HasText others) (λ f lt. omega arith) fs h
-
 -- ---- one verdict
 
 pub entered-none : (c : Content) → AreEntered c [] c
 entered-none c = record {
-  hashes = [];
+  events = [];
   numbers = [];
-  accepted = sym (append-nil c.accepted);
-  failed = sym (append-nil c.failed);
-  texts = refl;
-  accepted_are = refl;
-  failed_are = refl;
-  numbered = All-nil (HasText c.texts);
+  events_are = sym (append-nil c.events);
+  numbers_are = sym (append-nil c.numbers);
+  texts_are = refl;
+  verdicts_are = refl;
+  numbered = refl;
   ids = All-nil HasHashId;
 }
 
 pub entered-accepted : (c : Content) (hash id : List ℕ) → IsIdOf hash id → AreEntered c ((id, None) ∷ []) (with_accepted c hash)
 entered-accepted c hash id h = record {
-  hashes = hash ∷ [];
+  events = record { hash = hash; mark = 0 } ∷ [];
   numbers = [];
-  accepted = refl;
-  failed = sym (append-nil c.failed);
-  texts = refl;
-  accepted_are = ap (λ (i : List ℕ). (i, None) ∷ []) (sym h.encoded);
-  failed_are = refl;
-  numbered = All-nil (HasText c.texts);
+  events_are = refl;
+  numbers_are = sym (append-nil c.numbers);
+  texts_are = refl;
+  verdicts_are = ap (λ (i : List ℕ). (i, None) ∷ []) (sym h.encoded);
+  numbered = (record { large = λ e. absurd (omega arith); text = tt }, refl);
   ids = All-cons HasHashId (id, None) [] (hash, h) (All-nil HasHashId);
 }
 
 pub entered-failed : (c : Content) (hash id text : List ℕ) (number : ℕ) (texts : Texts) → IsIdOf hash id → IsNumberFor c.texts text (Some number) texts
     → AreEntered c ((id, Some text) ∷ []) (with_failed c hash number texts)
 entered-failed c hash id text number texts h n =
-    let one : Failed = record { hash = hash; text = number } in
     record {
-      hashes = [];
-      numbers = one ∷ [];
-      accepted = sym (append-nil c.accepted);
-      failed = refl;
-      texts = n.0;
-      accepted_are = refl;
-      failed_are = ap (λ (i : List ℕ). (i, Some (get_or texts number [])) ∷ []) (sym h.encoded) ∙ ap (λ (t : List ℕ). (id, Some t) ∷ []) n.1.1;
-      numbered = All-cons (HasText texts) one [] n.1.0 (All-nil (HasText texts));
+      events = record { hash = hash; mark = mark_for (Some number) } ∷ [];
+      numbers = large_for (Some number);
+      events_are = refl;
+      numbers_are = refl;
+      texts_are = n.0;
+      verdicts_are = ap (λ o. verdict_by texts hash o ∷ []) (told number)
+          ∙ ap (λ (i : List ℕ). (i, Some (get_or texts number [])) ∷ []) (sym h.encoded) ∙ ap (λ (t : List ℕ). (id, Some t) ∷ []) n.1.1;
+      numbered = (record { large = has_own number; text = subst (HasText texts) (sym (told number)) n.1.0 }, none_left number);
       ids = All-cons HasHashId (id, Some text) [] (hash, h) (All-nil HasHashId);
     }
 
@@ -125,18 +108,18 @@ failed_entry c d hash id text error all h e is = subst (λ (o : Option (List ℕ
 pub entered-then : (c d e : Content) (vs ws : List Verdict) → AreEntered c vs d → AreEntered d ws e → AreEntered c (vs ++ ws) e
 entered-then c d e vs ws h k =
     let texts = with_errors-begins d.texts ws in
-    let grown : e.texts ≡ d.texts ++ texts.0 = k.texts ∙ texts.1 in
+    let grown : e.texts ≡ d.texts ++ texts.0 = k.texts_are ∙ texts.1 in
     let size : length d.texts ≤ length e.texts = longer d.texts e.texts (texts.0, grown) in
-    let stays : map (failed_verdict e.texts) h.numbers ≡ filter is_failed vs = ap (λ ts. map (failed_verdict ts) h.numbers) grown ∙ failed_verdicts-more d.texts texts.0 h.numbers h.numbered ∙ h.failed_are in
+    let numbered : AreNumbered e.texts h.events h.numbers = numbered-more d.texts e.texts h.events h.numbers size h.numbered in
+    let stays : verdicts_of e.texts h.events h.numbers ≡ vs = ap (λ ts. verdicts_of ts h.events h.numbers) grown ∙ verdicts-more d.texts texts.0 h.events h.numbers h.numbered ∙ h.verdicts_are in
     record {
-      hashes = h.hashes ++ k.hashes;
+      events = h.events ++ k.events;
       numbers = h.numbers ++ k.numbers;
-      accepted = k.accepted ∙ ap (λ l. l ++ k.hashes) h.accepted ∙ append_assoc c.accepted h.hashes k.hashes;
-      failed = k.failed ∙ ap (λ l. l ++ k.numbers) h.failed ∙ append_assoc c.failed h.numbers k.numbers;
-      texts = k.texts ∙ ap (λ ts. with_errors ts ws) h.texts ∙ sym (with_errors-append c.texts vs ws);
-      accepted_are = map-append accepted_verdict h.hashes k.hashes ∙ ap (λ l. l ++ map accepted_verdict k.hashes) h.accepted_are ∙ ap (λ l. filter is_accepted vs ++ l) k.accepted_are ∙ sym (filter-append is_accepted vs ws);
-      failed_are = map-append (failed_verdict e.texts) h.numbers k.numbers ∙ ap (λ l. l ++ map (failed_verdict e.texts) k.numbers) stays ∙ ap (λ l. filter is_failed vs ++ l) k.failed_are ∙ sym (filter-append is_failed vs ws);
-      numbered = All-append (HasText e.texts) h.numbers k.numbers (numbered-more d.texts e.texts h.numbers size h.numbered) k.numbered;
+      events_are = k.events_are ∙ ap (λ l. l ++ k.events) h.events_are ∙ append_assoc c.events h.events k.events;
+      numbers_are = k.numbers_are ∙ ap (λ l. l ++ k.numbers) h.numbers_are ∙ append_assoc c.numbers h.numbers k.numbers;
+      texts_are = k.texts_are ∙ ap (λ ts. with_errors ts ws) h.texts_are ∙ sym (with_errors-append c.texts vs ws);
+      verdicts_are = verdicts-append e.texts h.events k.events h.numbers k.numbers numbered ∙ ap (λ us. us ++ verdicts_of e.texts k.events k.numbers) stays ∙ ap (λ us. vs ++ us) k.verdicts_are;
+      numbered = numbered-append e.texts h.events k.events h.numbers k.numbers numbered k.numbered;
       ids = All-append HasHashId vs ws h.ids k.ids;
     }
 
@@ -144,19 +127,19 @@ entered-then c d e vs ws h k =
 pub cut-entered : (c d : Content) (vs : List Verdict) → AreEntered c vs d → cut d (mark_of c) ≡ c
 cut-entered c d vs h =
     let texts = with_errors-begins c.texts vs in
-    let accepted = front c.accepted d.accepted h.hashes h.accepted in
-    let failed = front c.failed d.failed h.numbers h.failed in
-    let named = front c.texts d.texts texts.0 (h.texts ∙ texts.1) in
-    λ i. record { accepted = accepted i; failed = failed i; texts = named i }
+    let events = front c.events d.events h.events h.events_are in
+    let numbers = front c.numbers d.numbers h.numbers h.numbers_are in
+    let named = front c.texts d.texts texts.0 (h.texts_are ∙ texts.1) in
+    λ i. record { events = events i; numbers = numbers i; texts = named i }
 
 pub fit-entered : (c d : Content) (vs : List Verdict) → AreEntered c vs d → length d.texts ≤ 65535 → AreFit c.texts vs
-fit-entered c d vs h few = record { ids = h.ids; few = let same = ap length h.texts in omega arith }
+fit-entered c d vs h few = record { ids = h.ids; few = let same = ap length h.texts_are in omega arith }
 
 -- a verdict that can't be entered behind others is not fit among them
 pub not_fit-among : (c d : Content) (vs : List Verdict) (v : Verdict) (ws : List Verdict) → AreEntered c vs d → (AreFit d.texts (v ∷ []) → ⊥) → AreFit c.texts (vs ++ v ∷ ws) → ⊥
 not_fit-among c d vs v ws h not fit =
     let one = with_error d.texts v.1 in
-    let same : with_errors c.texts (vs ++ v ∷ ws) ≡ with_errors one ws = with_errors-append c.texts vs (v ∷ ws) ∙ ap (λ ts. with_errors ts (v ∷ ws)) (sym h.texts) in
+    let same : with_errors c.texts (vs ++ v ∷ ws) ≡ with_errors one ws = with_errors-append c.texts vs (v ∷ ws) ∙ ap (λ ts. with_errors ts (v ∷ ws)) (sym h.texts_are) in
     let more = longer one (with_errors one ws) (with_errors-begins one ws) in
     let size = ap length same in
     let all : length (with_errors c.texts (vs ++ v ∷ ws)) ≤ 65535 = fit.few in

@@ -2,9 +2,11 @@ pub mod Maps
 pub mod Kept
 pub mod OtherValues
 pub mod HashIds
+pub mod SymbolPairs
 pub mod ReplyTexts
 pub mod PlainReplies
-pub mod MergedParts
+pub mod MarkNumbers
+pub mod Events
 pub mod TextTables
 pub mod Entering
 pub mod Unpacking

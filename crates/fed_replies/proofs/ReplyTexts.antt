@@ -1,9 +1,8 @@
 -- The text of a reply, verdict by verdict.
-use Rattle.std.proofs.Common.{◌≡◌, ◌≢◌, ℕ, zero, suc, ◌<◌, ◌≤◌, List, [], ◌∷◌, ◌++◌, length, take, drop, get_or, Bool, true, false, not, codes, Option, Some, None, append-nil, refl, sym, ap, ap₂, subst, ◌∙◌, arith, ne_eqb}
+use Rattle.std.proofs.Common.{◌≡◌, ◌≢◌, ℕ, zero, suc, ◌<◌, ◌≤◌, List, [], ◌∷◌, ◌++◌, length, take, drop, get_or, Bool, true, false, codes, Option, Some, None, append-nil, refl, sym, ap, ap₂, subst, ◌∙◌, arith, ne_eqb}
 use Rattle.std.specs.FinMap as finite
-use Rattle.std.specs.List.{All}
 use Rattle.std.proofs.lemmas.Bool.{le-ltb}
-use Rattle.std.proofs.lemmas.List.{append_assoc, take-append-drop, get_or-take, length-take-le}
+use Rattle.std.proofs.lemmas.List.{append_assoc, take-append-drop, get_or-take, length-append, length-take-le, take_all}
 use Rattle.std.proofs.lemmas.List.Elements.{All-cons, All-head, All-tail, All-from_get_or}
 use Rattle.json.specs.Print.{escape, escape_byte, quoted}
 use Rattle.serde_json.specs.Data.{string}
@@ -103,16 +102,14 @@ plain_ascii (x ∷ text) h (suc i) = plain_ascii text (All-tail IsPlainByte x te
 pub plain_all : (text : List ℕ) (n : ℕ) → n ≡ length text → ((k : ℕ) → k < n → IsPlainByte (get_or text k 0)) → IsPlain text
 plain_all text n is h = All-from_get_or IsPlainByte text 0 (λ k below. h k (omega arith))
 
-pub key_written : (out a b c d : List ℕ) (later : Bool) (symbols : List ℕ) → IsPlain symbols → a ≡ out ++ comma later → b ≡ a ++ codes "\"$" → c ≡ b ++ symbols → d ≡ c ++ codes "\":"
-    → d ≡ out ++ (comma later ++ key_text (36 ∷ symbols))
-key_written out a b c d later symbols plain one two three four =
-    let id : IsPlain (36 ∷ symbols) = All-cons IsPlainByte 36 symbols plain_sigil plain in
-    let parts : d ≡ (((out ++ comma later) ++ codes "\"$") ++ symbols) ++ codes "\":" =
-    four ∙ ap (λ t. t ++ codes "\":") (three ∙ ap (λ t. t ++ symbols) (two ∙ ap (λ t. t ++ codes "\"$") one)) in
-    let start = out ++ comma later in
-    let end = symbols ++ codes "\":" in
-    parts ∙ append_assoc (start ++ codes "\"$") symbols (codes "\":") ∙ append_assoc start (codes "\"$") end ∙ append_assoc out (comma later) (codes "\"$" ++ end)
-    ∙ ap (λ t. out ++ (comma later ++ t)) (sym (plain_key (36 ∷ symbols) id))
+pub key_behind_comma : (symbols : List ℕ) → IsPlain symbols → codes ",\"$" ++ (symbols ++ codes "\":") ≡ comma true ++ key_text (36 ∷ symbols)
+key_behind_comma symbols plain = ap (λ t. comma true ++ t) (sym (plain_key (36 ∷ symbols) (All-cons IsPlainByte 36 symbols plain_sigil plain)))
+
+pub first_key : (key symbols : List ℕ) → IsPlain symbols → length symbols ≡ 43 → key ≡ codes ",\"$" ++ (symbols ++ codes "\":") → take 47 (drop 1 key) ≡ comma false ++ key_text (36 ∷ symbols)
+first_key key symbols plain size is =
+    let behind = length-append symbols (codes "\":") in
+    ap (λ t. take 47 (drop 1 t)) is ∙ take_all 47 (codes "\"$" ++ (symbols ++ codes "\":")) (omega arith)
+    ∙ sym (plain_key (36 ∷ symbols) (All-cons IsPlainByte 36 symbols plain_sigil plain))
 
 pub error_written : (out a b c text : List ℕ) → a ≡ out ++ codes "{\"error\":" → b ≡ a ++ canonical_text (string text) → c ≡ b ++ codes "}" → c ≡ out ++ verdict_text (Some text)
 error_written out a b c text one two three =

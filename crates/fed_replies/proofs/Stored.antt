@@ -21,9 +21,9 @@ use Rattle.fed_replies.proofs.Unpacking.{unpacked-entered, within-entered}
 use Rattle.fed_replies.proofs.Growing.{Extends, extends-same, extends-entered, replies-more, all_within}
 use Rattle.fed_replies.proofs.OtherValues.{order, reply_at-places, replies_at-push, placed-more}
 
-pub none_stored : AreStored finite.empty (record { accepted = []; failed = []; texts = [] }) []
+pub none_stored : AreStored finite.empty (record { events = []; numbers = []; texts = [] }) []
 none_stored = record {
-  within = All-nil (IsWithin (record { accepted = []; failed = []; texts = [] }));
+  within = All-nil (IsWithin (record { events = []; numbers = []; texts = [] }));
   placed = λ origin txn place h. let gone : None ≡ Some place = sym (finite.get-empty order txn) ∙ (ap (λ (o : Option OriginPlaces). finite.get (unwrap_or o finite.empty) txn) (sym (finite.get-empty order origin)) ∙ h) in absurd (cc);
   counted = none;
 }
@@ -38,27 +38,27 @@ seen-same places places' c c' fs fs' p e f = ap (λ q. seen q c' fs') p ∙ ap (
 -- ---- the form of one more reply
 
 pub form_extends : (c d : Content) (reply : List ℕ) (f : Form) → IsFormOf c reply f d → Extends c d
-form_extends c d reply (Packed start end) h = extends-entered c d (finite.entries h.verdicts) h.entered
+form_extends c d reply (Packed start end size) h = extends-entered c d (finite.entries h.verdicts) h.entered
 form_extends c d reply (Whole bytes) h = subst (Extends c) (sym h.same) (extends-same c)
 
 pub form_within : (c d : Content) (reply : List ℕ) (f : Form) → IsFormOf c reply f d → IsWithin d f
-form_within c d reply (Packed start end) h = subst (λ s. AreWithin d s end) (sym h.start_is) (subst (λ e. AreWithin d (ends_of c) e) (sym h.end_is) (within-entered c d h.verdicts h.entered))
+form_within c d reply (Packed start end size) h = subst (λ s. AreWithin d s end) (sym h.start_is) (subst (λ e. AreWithin d (ends_of c) e) (sym h.end_is) (within-entered c d h.verdicts h.entered))
 form_within c d reply (Whole bytes) h = tt
 
 pub form_reply : (c d : Content) (reply : List ℕ) (f : Form) → IsFormOf c reply f d → reply_of d f ≡ reply
-form_reply c d reply (Packed start end) h =
+form_reply c d reply (Packed start end size) h =
     ap (λ s. canonical_text (reply_value (unpacked d s end))) h.start_is ∙ ap (λ e. canonical_text (reply_value (unpacked d (ends_of c) e))) h.end_is
     ∙ ap (λ m. canonical_text (reply_value m)) (unpacked-entered c d h.verdicts h.entered) ∙ sym h.packable.canonical.written
 form_reply c d reply (Whole bytes) h = h.bytes_are
 
 -- the pieces without it
 pub form_cut : (c d : Content) (reply : List ℕ) (f : Form) → IsFormOf c reply f d → cut d (mark_of c) ≡ c
-form_cut c d reply (Packed start end) h = cut-entered c d (finite.entries h.verdicts) h.entered
+form_cut c d reply (Packed start end size) h = cut-entered c d (finite.entries h.verdicts) h.entered
 form_cut c d reply (Whole bytes) h = ap (λ e. cut e (mark_of c)) h.same ∙ cut-entered c c [] (entered-none c)
 
 pub form_counted : (c d : Content) (reply : List ℕ) (f : Form) (replies : List (List ℕ)) (n : ℕ) → IsFormOf c reply f d → ArePacked replies c.texts n
     → ArePacked (replies ++ reply ∷ []) d.texts (n + cond (is_packed f) 1 0)
-form_counted c d reply (Packed start end) replies n h k = subst (λ (ts : Texts). ArePacked (replies ++ reply ∷ []) ts (n + 1)) (sym h.entered.texts) (packed k h.packable)
+form_counted c d reply (Packed start end size) replies n h k = subst (λ (ts : Texts). ArePacked (replies ++ reply ∷ []) ts (n + 1)) (sym h.entered.texts_are) (packed k h.packable)
 form_counted c d reply (Whole bytes) replies n h k =
     let same : n ≡ n + 0 = omega arith in
     subst (λ m. ArePacked (replies ++ reply ∷ []) d.texts m) same (subst (λ (e : Content). ArePacked (replies ++ reply ∷ []) e.texts n) (sym h.same) (whole k h.not_packable))

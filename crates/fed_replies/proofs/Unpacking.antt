@@ -1,15 +1,13 @@
 -- What is packed is unpacked as the same verdicts.
-use Rattle.std.proofs.Common.{◌≡◌, ℕ, ◌-◌, ◌≤◌, List, [], ◌∷◌, ◌++◌, map, length, take, drop, Bool, true, false, not, cond, T, ◌⊎◌, inl, inr, if◌then◌else◌, Ordering, Less, Equal, Greater, Option, Some, None, is_some, refl, sym, ap, subst, ◌∙◌, arith}
-use Rattle.std.specs.List.{filter, slice_range}
-use Rattle.std.specs.Ordering.{is_lt, is_eq}
+use Rattle.std.proofs.Common.{◌≡◌, ℕ, ◌-◌, ◌≤◌, List, [], ◌∷◌, ◌++◌, length, take, drop, Bool, true, false, cond, ◌⊎◌, inl, inr, if◌then◌else◌, Option, Some, None, is_some, refl, sym, ap, subst, ◌∙◌, arith}
+use Rattle.std.specs.List.{slice_range}
 use Rattle.std.specs.Cmp.Lexicographic.{nat_list_cmp_total}
 use Rattle.std.specs.FinMap as finite
-use Rattle.std.specs.FinMap.{is_sorted}
-use Rattle.std.proofs.lemmas.Bool.{cases_Bool, and_parts}
+use Rattle.std.proofs.lemmas.Bool.{cases_Bool}
 use Rattle.std.proofs.lemmas.List.{drop_at, take_all, length-append}
 use Rattle.fed_txn.specs.Verdicts.{VerdictMap, with_verdict}
 use Rattle.fed_replies.specs.PackedReply.{Verdict}
-use Rattle.fed_replies.specs.Pieces.{Content, ends_of, is_accepted, is_failed, accepted_verdict, failed_verdict, AreNumbered, AreEntered, AreWithin, ArePartsOf, with_verdicts, unpacked}
+use Rattle.fed_replies.specs.Pieces.{Content, ends_of, AreEntered, AreNumbered, AreWithin, verdicts_in, verdicts_of, with_verdicts, unpacked}
 use Rattle.fed_replies.proofs.Maps.{tied, same_key}
 use Rattle.fed_replies.proofs.OtherValues.{order, one_map}
 
@@ -25,10 +23,6 @@ earlier_of None o = o
 earlier_of (Some e) o = Some e
 
 -- ---- entering verdicts one after another
-
-pub with_verdicts-append : (m : VerdictMap) (vs ws : List Verdict) → with_verdicts m (vs ++ ws) ≡ with_verdicts (with_verdicts m vs) ws
-with_verdicts-append m [] ws = refl
-with_verdicts-append m (v ∷ vs) ws = with_verdicts-append (with_verdict m v.0 v.1) vs ws
 
 earlier_of-None : (o : Option Error) → earlier_of o None ≡ o
 earlier_of-None None = refl
@@ -60,67 +54,10 @@ get-with_verdicts m (v ∷ vs) q =
     ∙ ap (λ o. earlier_of o (at q vs)) (get-with_verdict m v.0 q v.1)
     ∙ earlier_of-cond (finite.get m q) (tied q v.0) v.1 (at q vs)
 
-at-append : (q : List ℕ) (vs ws : List Verdict) → at q (vs ++ ws) ≡ earlier_of (at q vs) (at q ws)
-at-append q [] ws = refl
-at-append q (v ∷ vs) ws = step (tied q v.0) (at-append q vs ws)
-  where
-    step : (b : Bool) → at q (vs ++ ws) ≡ earlier_of (at q vs) (at q ws) → cond b (Some v.1) (at q (vs ++ ws)) ≡ earlier_of (cond b (Some v.1) (at q vs)) (at q ws)
-    step true h = refl
-    step false h = h
-
--- ---- accepted events and failed ones
-
-not_at : (k l : List ℕ) → is_lt (order k l) ≡ true → tied k l ≡ false
-not_at k l = by (order k l)
-  where
-    by : (o : Ordering) → is_lt o ≡ true → is_eq o ≡ false
-    by Less h = refl
-    by Equal h = absurd (cc)
-    by Greater h = refl
-
--- a key that is below all others is none of them
-none_below : (p : Verdict → Bool) (k : List ℕ) (es : List Verdict) → finite.Entries.below_all order k es ≡ true → at k (filter p es) ≡ None
-none_below p k [] h = refl
-none_below p k (e ∷ es) h =
-    let parts = and_parts (is_lt (order k e.0)) (finite.Entries.below_all order k es) h in
-    step (p e) (not_at k e.0 parts.0) (none_below p k es parts.1)
-  where
-    step : (b : Bool) → tied k e.0 ≡ false → at k (filter p es) ≡ None → at k (cond b (e ∷ filter p es) (filter p es)) ≡ None
-    step true n h = ap (λ c. cond c (Some e.1) (at k (filter p es))) n ∙ h
-    step false n h = h
-
--- of entries with different keys those that pass and those that don't, one after the other, give what all give
-merged : (es : List Verdict) (q : List ℕ) → is_sorted order es ≡ true → earlier_of (at q (filter is_accepted es)) (at q (filter is_failed es)) ≡ at q es
-merged [] q h = refl
-merged (e ∷ es) q h =
-    let parts = and_parts (finite.Entries.below_all order e.0 es) (is_sorted order es) h in
-    step (is_failed e) (cases_Bool (tied q e.0)) (none_below is_accepted e.0 es parts.0) (merged es q parts.1)
-  where
-    step : (b : Bool) → (tied q e.0 ≡ true) ⊎ (tied q e.0 ≡ false) → at e.0 (filter is_accepted es) ≡ None → earlier_of (at q (filter is_accepted es)) (at q (filter is_failed es)) ≡ at q es
-        → earlier_of (at q (cond (not b) (e ∷ filter is_accepted es) (filter is_accepted es))) (at q (cond b (e ∷ filter is_failed es) (filter is_failed es))) ≡ cond (tied q e.0) (Some e.1) (at q es)
-    step true (inl t) none rest =
-        let gone : at q (filter is_accepted es) ≡ None = ap (λ k. at k (filter is_accepted es)) (same_key q e.0 t) ∙ none in
-        ap (λ o. earlier_of o (cond (tied q e.0) (Some e.1) (at q (filter is_failed es)))) gone
-        ∙ ap (λ c. cond c (Some e.1) (at q (filter is_failed es))) t ∙ sym (ap (λ c. cond c (Some e.1) (at q es)) t)
-    step true (inr n) none rest =
-        ap (λ c. earlier_of (at q (filter is_accepted es)) (cond c (Some e.1) (at q (filter is_failed es)))) n ∙ rest ∙ sym (ap (λ c. cond c (Some e.1) (at q es)) n)
-    step false (inl t) none rest =
-        ap (λ c. earlier_of (cond c (Some e.1) (at q (filter is_accepted es))) (at q (filter is_failed es))) t ∙ sym (ap (λ c. cond c (Some e.1) (at q es)) t)
-    step false (inr n) none rest =
-        ap (λ c. earlier_of (cond c (Some e.1) (at q (filter is_accepted es))) (at q (filter is_failed es))) n ∙ rest ∙ sym (ap (λ c. cond c (Some e.1) (at q es)) n)
-
-truth : (b : Bool) → T b → b ≡ true
-truth true h = refl
-truth false h = absurd h
-
-same_verdicts : (m : VerdictMap) → with_verdicts finite.empty (filter is_accepted (finite.entries m) ++ filter is_failed (finite.entries m)) ≡ m
-same_verdicts m =
-    let es = finite.entries m in
-    one_map _ _ (λ q.
-    get-with_verdicts finite.empty (filter is_accepted es ++ filter is_failed es) q
-    ∙ ap (λ o. earlier_of o (at q (filter is_accepted es ++ filter is_failed es))) (finite.get-empty order q)
-    ∙ at-append q (filter is_accepted es) (filter is_failed es)
-    ∙ merged es q (truth _ (finite.entries_sorted m)) ∙ sym (finite.get-entries m q))
+-- the entries of a map give the map
+same_verdicts : (m : VerdictMap) → with_verdicts finite.empty (finite.entries m) ≡ m
+same_verdicts m = one_map _ _ (λ q.
+    get-with_verdicts finite.empty (finite.entries m) q ∙ ap (λ o. earlier_of o (at q (finite.entries m))) (finite.get-empty order q) ∙ sym (finite.get-entries m q))
 
 -- ---- between the ends
 
@@ -130,31 +67,30 @@ slice_behind xs ys zs e =
     ap (λ l. take (length zs - length xs) (drop (length xs) l)) e ∙ ap (take (length zs - length xs)) (drop_at xs ys (length xs) refl) ∙ take_all (length zs - length xs) ys size
 
 module _ (c d : Content) (m : VerdictMap) (h : AreEntered c (finite.entries m) d) where
-  pub unpacked-entered : unpacked d (ends_of c) (ends_of d) ≡ m
-  unpacked-entered =
-      let accepted = ap (map accepted_verdict) (slice_behind c.accepted h.hashes d.accepted h.accepted) ∙ h.accepted_are in
-      let failed = ap (map (failed_verdict d.texts)) (slice_behind c.failed h.numbers d.failed h.failed) ∙ h.failed_are in
-      ap (λ l. with_verdicts finite.empty (l ++ map (failed_verdict d.texts) (slice_range d.failed (length c.failed) (length d.failed)))) accepted
-      ∙ ap (λ l. with_verdicts finite.empty (filter is_accepted (finite.entries m) ++ l)) failed
-      ∙ same_verdicts m
+  events_between : slice_range d.events (length c.events) (length d.events) ≡ h.events
+  events_between = slice_behind c.events h.events d.events h.events_are
 
-  parts-entered : ArePartsOf d.texts (slice_range d.accepted (length c.accepted) (length d.accepted)) (slice_range d.failed (length c.failed) (length d.failed)) (finite.entries m)
-  parts-entered = record {
-    rising = truth _ (finite.entries_sorted m);
-    accepted_are = ap (map accepted_verdict) (slice_behind c.accepted h.hashes d.accepted h.accepted) ∙ h.accepted_are;
-    failed_are = ap (map (failed_verdict d.texts)) (slice_behind c.failed h.numbers d.failed h.failed) ∙ h.failed_are;
-  }
+  numbers_between : slice_range d.numbers (length c.numbers) (length d.numbers) ≡ h.numbers
+  numbers_between = slice_behind c.numbers h.numbers d.numbers h.numbers_are
+
+  verdicts-entered : verdicts_in d (ends_of c) (ends_of d) ≡ finite.entries m
+  verdicts-entered =
+      ap (λ es. verdicts_of d.texts es (slice_range d.numbers (length c.numbers) (length d.numbers))) events_between
+      ∙ ap (verdicts_of d.texts h.events) numbers_between ∙ h.verdicts_are
+
+  pub unpacked-entered : unpacked d (ends_of c) (ends_of d) ≡ m
+  unpacked-entered = ap (with_verdicts finite.empty) verdicts-entered ∙ same_verdicts m
 
   pub within-entered : AreWithin d (ends_of c) (ends_of d)
   within-entered =
-      let accepted_size = ap length h.accepted ∙ length-append c.accepted h.hashes in
-      let failed_size = ap length h.failed ∙ length-append c.failed h.numbers in
+      let events_size = ap length h.events_are ∙ length-append c.events h.events in
+      let numbers_size = ap length h.numbers_are ∙ length-append c.numbers h.numbers in
       record {
-        accepted = omega arith;
-        failed = omega arith;
-        accepted_end = omega arith;
-        failed_end = omega arith;
-        numbers = subst (AreNumbered d.texts) (sym (slice_behind c.failed h.numbers d.failed h.failed)) h.numbered;
-        parts = subst (λ (v : VerdictMap). ArePartsOf d.texts (slice_range d.accepted (length c.accepted) (length d.accepted)) (slice_range d.failed (length c.failed) (length d.failed)) (finite.entries v))
-            (sym unpacked-entered) parts-entered;
+        events = omega arith;
+        numbers = omega arith;
+        events_end = omega arith;
+        numbers_end = omega arith;
+        numbered = subst (λ es. AreNumbered d.texts es (slice_range d.numbers (length c.numbers) (length d.numbers))) (sym events_between)
+            (subst (AreNumbered d.texts h.events) (sym numbers_between) h.numbered);
+        in_order = ap finite.entries unpacked-entered ∙ sym verdicts-entered;
       }

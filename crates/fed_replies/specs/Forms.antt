@@ -11,16 +11,16 @@ use Rattle.fed_replies.specs.Pieces.{Content, AreEntered, AreWithin, ends_of, un
 use Rattle.fed_replies.specs.PackedReply.{IsPackable}
 
 abbrev pub is_packed : Form → Bool
-is_packed (Packed start end) = true
+is_packed (Packed start end size) = true
 is_packed (Whole bytes) = false
 
 -- the bytes of a reply
 abbrev pub reply_of : Content → Form → List ℕ
-reply_of content (Packed start end) = canonical_text (reply_value (unpacked content start end))
+reply_of content (Packed start end size) = canonical_text (reply_value (unpacked content start end))
 reply_of content (Whole bytes) = bytes.items
 
 abbrev pub IsWithin : Content → Form → Type 0
-IsWithin content (Packed start end) = AreWithin content start end
+IsWithin content (Packed start end size) = AreWithin content start end
 IsWithin content (Whole bytes) = Unit {0}
 
 -- the verdicts of a reply that can be packed were entered behind the old content
@@ -38,5 +38,5 @@ pub record IsKeptWhole (old : Content) (reply bytes : List ℕ) (new : Content) 
 
 -- the form of one more reply
 abbrev pub IsFormOf : Content → List ℕ → Form → Content → Type 0
-IsFormOf old reply (Packed start end) new = IsPackedBehind old reply start end new
+IsFormOf old reply (Packed start end size) new = IsPackedBehind old reply start end new
 IsFormOf old reply (Whole bytes) new = IsKeptWhole old reply bytes.items new

@@ -1,11 +1,13 @@
 pub mod Kept
 pub mod HashId
+pub mod Symbols
 pub mod Plain
 pub mod Texts
 pub mod PackedReply
 pub mod ReplyText
 pub mod TextTable
 pub mod Places
+pub mod Marks
 pub mod Pieces
 pub mod Forms
 pub mod PackedReplies

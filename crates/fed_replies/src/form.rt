@@ -10,10 +10,10 @@ use fed_json::NoMemory;
 use fed_txn::{ReplyFault, Verdicts, read_reply, write_reply};
 use std::alloc::Global;
 
-/// A reply: where its events lie in the pieces, or its bytes.
+/// A reply: where its events lie in the pieces and how many bytes it has, or its bytes.
 #[derive(Drop)]
 pub(crate) enum Form {
-    Packed(Ends, Ends),
+    Packed(Ends, Ends, usize),
     Whole(Vec<u8>),
 }
 
@@ -37,15 +37,24 @@ pub(crate) fn packed_count(forms: &[Form]) -> usize
 }
 
 /// The form of a reply, whose verdicts are entered into the pieces where it can be packed. An error leaves the pieces as they were.
-///
-/// A reply of which nothing is escaped, as nearly all are, is read where it lies; any other is read as JSON and written again.
 pub(crate) fn form_of(alloc: Global, pieces: &mut Pieces, reply: &[u8]) -> Result<Form, NoMemory>
+    ensures form { IfOk result (λ form. IsFormOf pieces.old reply.now form pieces.new) }
+    ensures err { OnErr result (pieces.new ≡ pieces.old) }
+{
+    pieces.prepare(alloc)?;
+    form_once_prepared(alloc, pieces, reply)
+}
+
+// The same, where the pieces are prepared.
+//
+// A reply of which nothing is escaped, as nearly all are, is read where it lies; any other is read as JSON and written again.
+fn form_once_prepared(alloc: Global, pieces: &mut Pieces, reply: &[u8]) -> Result<Form, NoMemory>
     ensures form { IfOk result (λ form. IsFormOf pieces.old reply.now form pieces.new) }
     ensures err { OnErr result (pieces.new ≡ pieces.old) }
 {
     let start = pieces.mark().ends;
     if pieces.enter_plain(alloc, reply)? {
-        return Ok(Form::Packed(start, pieces.mark().ends));
+        return Ok(Form::Packed(start, pieces.mark().ends, reply.len()));
     }
     form_of_read(alloc, pieces, reply)
 }
@@ -58,7 +67,7 @@ fn form_of_read(alloc: Global, pieces: &mut Pieces, reply: &[u8]) -> Result<Form
     let start = pieces.mark().ends;
     if let Some(verdicts) = canonical_verdicts(alloc, reply)? {
         if pieces.enter_all(alloc, &verdicts)? {
-            return Ok(Form::Packed(start, pieces.mark().ends));
+            return Ok(Form::Packed(start, pieces.mark().ends, reply.len()));
         }
     }
     Ok(Form::Whole(Vec::from_slice(alloc, reply)?))
@@ -85,7 +94,7 @@ pub(crate) fn reply_of(alloc: Global, pieces: &Pieces, form: &Form) -> Result<Ve
     ensures { IfOk result (λ reply. reply.items ≡ reply_of pieces.now form.now) }
 {
     match form {
-        Form::Packed(start, end) => pieces.reply(alloc, *start, *end),
+        Form::Packed(start, end, size) => pieces.reply(alloc, *start, *end, *size),
         Form::Whole(bytes) => Ok(Vec::from_slice(alloc, bytes)?),
     }
 }

@@ -48,8 +48,8 @@ fn are_bytes(bytes: &[u8])
     ensures { IsBytes bytes.now }
 {}
 
-/// The characters behind the sigil of the id that a hash is.
-pub(crate) fn symbols_of(hash: &Hash) -> Symbols
+/// The characters behind the sigil of the id that a hash is, as the library gives them.
+pub(crate) fn encoded(hash: &Hash) -> Symbols
     ensures symbols { result ≡ encode_of url_safe_no_pad hash.now }
     ensures plain { IsPlain result }
 {

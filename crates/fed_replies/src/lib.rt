@@ -9,24 +9,30 @@
 //! - `form`: the form in which it keeps a reply: packed, or whole
 //! - `pieces`: what packed replies lie in
 //! - `plain`: replies of which nothing is escaped, read where they lie
-//! - `merging`: verdicts that lie apart, written in order
+//! - `marks`: what one byte tells of a verdict
+//! - `members`: the verdicts about packed events, written one after another
 //! - `writing`: replies that are written verdict by verdict
 //! - `text_table`: the texts of failed verdicts, each once
+//! - `error_text`: the text of an error, and how it stands in a reply
 //! - `hash_id`: event ids that are hashes
+//! - `symbols`: the symbols of hashes, looked up two by two
 //! - `laws`: what holds of all that is kept
 #![tactic(auto)]
 
+mod error_text;
 mod form;
 mod hash_id;
 mod laws;
 mod list_store;
-mod merging;
+mod marks;
+mod members;
 mod numbered;
 mod packed_store;
 mod pieces;
 mod places;
 mod plain;
 mod store;
+mod symbols;
 #[cfg(test)]
 mod tests;
 mod text_table;

@@ -3,30 +3,31 @@ ghost use Rattle.std.specs.Prelude.{◌≡◌, ◌<◌, ◌≤◌, [], ◌∷◌
 ghost use Rattle.std.specs.FinMap as map;
 ghost use Rattle.fed_json.specs.CanonicalText.{canonical_text};
 ghost use Rattle.fed_txn.specs.Reply.{reply_value};
-ghost use Rattle.fed_replies.specs.Pieces.{AreNumbered};
 ghost use Rattle.fed_replies.specs.Plain.{IsPlain};
 
 use crate::hash_id::{Hash, hash_of};
-use crate::merging::write_members;
+use crate::marks::{ACCEPTED, mark_for, push_large};
+use crate::members::write_members;
 use crate::plain::{behind, read_member};
+use crate::symbols::SymbolPairs;
 use crate::text_table::TextTable;
 use fed_json::NoMemory;
 use fed_txn::Verdicts;
 use std::alloc::Global;
 use std::marker::Model;
 
-/// An event that has failed, by its hash and the number of the error's text.
+/// An event by its hash, and the mark of the verdict about it.
 #[derive(Clone, Copy)]
-pub(crate) struct Failed {
+pub(crate) struct Event {
     pub(crate) hash: Hash,
-    pub(crate) text: u16,
+    pub(crate) mark: u8,
 }
 
-/// How many events stand before a place, of those that were accepted and of those that have failed.
+/// How many events stand before a place, and how many numbers.
 #[derive(Clone, Copy)]
 pub(crate) struct Ends {
-    pub(crate) accepted: usize,
-    pub(crate) failed: usize,
+    pub(crate) events: usize,
+    pub(crate) numbers: usize,
 }
 
 /// How far the pieces reach.
@@ -36,13 +37,14 @@ pub(crate) struct Mark {
     pub(crate) texts: usize,
 }
 
-/// The events of packed replies, one after another: the hashes of those that were accepted, those that have failed, and the texts of
-/// their errors.
+/// The events of packed replies, one after another, the numbers that their marks have no room for, and the texts of their errors. Beside
+/// them lie the pairs of symbols that they are written with.
 #[derive(Drop)]
 pub(crate) struct Pieces {
-    accepted: Vec<Hash>,
-    failed: Vec<Failed>,
+    events: Vec<Event>,
+    numbers: Vec<u16>,
     texts: TextTable,
+    pairs: SymbolPairs,
 }
 
 impl Model for Pieces {
@@ -52,7 +54,7 @@ impl Model for Pieces {
 
     ghost coded = { content_code };
 
-    ghost view = { λ p. record { accepted = p.accepted.items; failed = p.failed.items; texts = p.texts } };
+    ghost view = { λ p. record { events = p.events.items; numbers = p.numbers.items; texts = p.texts } };
 }
 
 impl Pieces {
@@ -69,13 +71,21 @@ impl Pieces {
 
     /// No pieces.
     pub(crate) fn new(alloc: Global) -> Pieces
-        ensures { result ≡ record { accepted = []; failed = []; texts = [] } }
+        ensures { result ≡ record { events = []; numbers = []; texts = [] } }
     {
         Pieces {
-            accepted: Vec::new(alloc),
-            failed: Vec::new(alloc),
+            events: Vec::new(alloc),
+            numbers: Vec::new(alloc),
             texts: TextTable::new(alloc),
+            pairs: SymbolPairs::new(alloc),
         }
+    }
+
+    /// Makes what replies are written with, where it is not made yet. The pieces stay as they were.
+    pub(crate) fn prepare(&mut self, alloc: Global) -> Result<(), NoMemory>
+        ensures { self.new ≡ self.old }
+    {
+        self.pairs.make(alloc)
     }
 
     /// How far they reach. They have at most 65,535 texts.
@@ -85,8 +95,8 @@ impl Pieces {
     {
         Mark {
             ends: Ends {
-                accepted: self.accepted.len(),
-                failed: self.failed.len(),
+                events: self.events.len(),
+                numbers: self.numbers.len(),
             },
             texts: self.texts.len(),
         }
@@ -96,8 +106,8 @@ impl Pieces {
     pub(crate) fn truncate(&mut self, mark: Mark)
         ensures { self.new ≡ cut self.old mark }
     {
-        self.accepted.truncate(mark.ends.accepted);
-        self.failed.truncate(mark.ends.failed);
+        self.events.truncate(mark.ends.events);
+        self.numbers.truncate(mark.ends.numbers);
         self.texts.truncate(mark.texts);
     }
 
@@ -192,8 +202,9 @@ impl Pieces {
         ensures ok { OnOk result (self.new ≡ with_accepted self.old hash) }
         ensures err { OnErr result (self.new ≡ self.old) }
     {
-        make_room(&mut self.accepted)?;
-        self.accepted.push_reserved(hash);
+        make_room(&mut self.events)?;
+        let mark = ACCEPTED;
+        self.events.push_reserved(Event { hash, mark });
         Ok(())
     }
 
@@ -202,24 +213,34 @@ impl Pieces {
         ensures all { IfOk result (λ all. IsFailedEntry self.old hash text.now all self.new) }
         ensures err { OnErr result (self.new ≡ self.old) }
     {
-        make_room(&mut self.failed)?;
+        make_room(&mut self.events)?;
+        make_room(&mut self.numbers)?;
         let Some(number) = self.texts.number_for(alloc, text)? else {
             return Ok(false);
         };
-        self.failed.push_reserved(Failed { hash, text: number });
+        push_large(&mut self.numbers, number);
+        let mark = mark_for(number);
+        self.events.push_reserved(Event { hash, mark });
         Ok(true)
     }
 
-    /// The bytes of the reply whose verdicts were entered between two ends.
-    pub(crate) fn reply(&self, alloc: Global, start: Ends, end: Ends) -> Result<Vec<u8>, NoMemory>
+    /// The bytes of the reply whose verdicts were entered between two ends. It is written into a buffer of `size` bytes, which grows where
+    /// these are too few.
+    pub(crate) fn reply(
+        &self,
+        alloc: Global,
+        start: Ends,
+        end: Ends,
+        size: usize,
+    ) -> Result<Vec<u8>, NoMemory>
         requires { AreWithin self.now start end }
         ensures { IfOk result (λ reply. reply.items ≡ canonical_text (reply_value (unpacked self.now start end))) }
     {
-        let accepted = &self.accepted[start.accepted..end.accepted];
-        let failed = &self.failed[start.failed..end.failed];
-        let mut out = Vec::with_capacity(alloc, reply_size(accepted, failed, &self.texts))?;
+        let events = &self.events[start.events..end.events];
+        let numbers = &self.numbers[start.numbers..end.numbers];
+        let mut out = Vec::with_capacity(alloc, size)?;
         out.extend_from_slice(b"{\"pdus\":{")?;
-        write_members(alloc, &mut out, accepted, failed, &self.texts)?;
+        write_members(&mut out, events, numbers, &self.texts, &self.pairs)?;
         out.extend_from_slice(b"}}")?;
         Ok(out)
     }
@@ -233,19 +254,6 @@ fn error_text(error: &Option<String>) -> Option<&str>
         Some(text) => Some(text.as_str()),
         None => None,
     }
-}
-
-// How many bytes a reply has whose texts are plain.
-fn reply_size(accepted: &[Hash], failed: &[Failed], texts: &TextTable) -> usize
-    requires { AreNumbered texts.now failed.now }
-{
-    let mut size = accepted.len().saturating_mul(51).saturating_add(11);
-    for event in failed {
-        size = size
-            .saturating_add(62)
-            .saturating_add(texts.text(event.text).len());
-    }
-    size
 }
 
 // Makes room for one more item: where there is none, for a sixteenth more than there are.

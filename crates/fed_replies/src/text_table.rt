@@ -3,6 +3,7 @@ ghost use Rattle.std.specs.Prelude.{◌≡◌, ◌-◌, ◌<◌, ◌≤◌, [], 
 ghost use Rattle.std.specs.List.{list_any};
 ghost use Rattle.fed_replies.specs.TextTable.{IsNumberFor, IsTextAt};
 
+use crate::error_text::ErrorText;
 use fed_json::NoMemory;
 use std::alloc::Global;
 use std::collections::BTreeMap;
@@ -14,12 +15,11 @@ const MAX_TEXTS: usize = 65_535;
 /// Texts, each once. The number of a text is its place.
 #[derive(Drop)]
 pub(crate) struct TextTable {
-    texts: Vec<String>,
+    texts: Vec<ErrorText>,
     numbers: BTreeMap<String, u16>,
 }
 
 impl Model for TextTable {
-    ghost use Rattle.std.specs.Prelude.{map as map_list, string_bytes};
     ghost use Rattle.std.specs.Coded.{coded_ℕ, coded_list};
     ghost use Rattle.fed_replies.specs.Texts.{Texts};
 
@@ -29,9 +29,9 @@ impl Model for TextTable {
 
     ghost use Rattle.fed_replies.specs.TextTable.{IsNumbered};
 
-    ghost view = { λ t. map_list string_bytes t.texts.items };
+    ghost view = { λ t. t.texts.items };
 
-    ghost invariant = { λ t. IsNumbered (map_list string_bytes t.texts.items) t.numbers };
+    ghost invariant = { λ t. IsNumbered t.texts.items t.numbers };
 }
 
 impl TextTable {
@@ -54,11 +54,11 @@ impl TextTable {
     }
 
     /// The text of a number.
-    pub(crate) fn text(&self, number: u16) -> &str
+    pub(crate) fn text(&self, number: u16) -> &ErrorText
         requires { number < length self.now }
         ensures { result.now ≡ slice_index_or self.now number [] }
     {
-        self.texts[number as usize].as_str()
+        &self.texts[number as usize]
     }
 
     /// The number of a text, which is entered where it is a new one; none where it would be the 65,536th. An error leaves the texts as
@@ -93,9 +93,10 @@ impl TextTable {
     {
         let number = self.texts.len() as u16;
         self.texts.reserve(1)?;
+        let error = ErrorText::new(alloc, text)?;
         let text = String::from_str(alloc, text)?;
-        drop(self.numbers.insert(text.clone()?, number)?);
-        self.texts.push_reserved(text);
+        drop(self.numbers.insert(text, number)?);
+        self.texts.push_reserved(error);
         Ok(number)
     }
 

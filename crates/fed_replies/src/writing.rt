@@ -1,10 +1,11 @@
 // Replies that are written verdict by verdict.
-ghost use Rattle.std.specs.Prelude.{◌≡◌, ◌∷◌, ◌++◌, None, Some, OnOk};
+ghost use Rattle.std.specs.Prelude.{◌≡◌, ◌∷◌, ◌++◌, None, Some, OnOk, codes};
 ghost use Rattle.serde_json.specs.Data.{string};
 ghost use Rattle.fed_json.specs.CanonicalText.{canonical_text, comma};
 ghost use Rattle.fed_replies.specs.Plain.{IsPlain};
 ghost use Rattle.fed_replies.specs.ReplyText.{key_text, member_text, verdict_text};
 
+use crate::error_text::ErrorText;
 use crate::hash_id::Symbols;
 use crate::plain::plain_length;
 use fed_json::{Json, NoMemory, canonical};
@@ -26,17 +27,17 @@ pub(crate) fn write_accepted(
 
 /// Appends the verdict about an event that has failed, by the characters behind the sigil of its id.
 pub(crate) fn write_failed(
-    alloc: Global,
     out: &mut Vec<u8>,
     later: bool,
     symbols: &Symbols,
-    text: &str,
+    error: &ErrorText,
 ) -> Result<(), NoMemory>
     requires { IsPlain symbols.now }
-    ensures { OnOk result (out.new.items ≡ out.old.items ++ member_text later (36 ∷ symbols.now, Some text.now)) }
+    ensures { OnOk result (out.new.items ≡ out.old.items ++ member_text later (36 ∷ symbols.now, Some error.now)) }
 {
     write_key(out, later, symbols)?;
-    write_error(alloc, out, text)
+    out.extend_from_slice(error.verdict())?;
+    Ok(())
 }
 
 // Appends an id with its colon, and before it a comma where it is a later one.
@@ -44,24 +45,26 @@ fn write_key(out: &mut Vec<u8>, later: bool, symbols: &Symbols) -> Result<(), No
     requires { IsPlain symbols.now }
     ensures { OnOk result (out.new.items ≡ out.old.items ++ (comma later ++ key_text (36 ∷ symbols.now))) }
 {
-    write_comma(out, later)?;
-    out.extend_from_slice(b"\"$")?;
-    out.extend_from_slice(symbols)?;
-    out.extend_from_slice(b"\":")?;
-    Ok(())
-}
-
-fn write_comma(out: &mut Vec<u8>, later: bool) -> Result<(), NoMemory>
-    ensures { OnOk result (out.new.items ≡ out.old.items ++ comma later) }
-{
+    let key = key_of(symbols);
     if later {
-        out.extend_from_slice(b",")?;
+        out.extend_from_slice(&key)?;
+        return Ok(());
     }
+    out.extend_from_slice(&key[1..])?;
     Ok(())
 }
 
-// Appends the verdict about an event that has failed.
-fn write_error(alloc: Global, out: &mut Vec<u8>, text: &str) -> Result<(), NoMemory>
+// A comma and an id with its colon: one copy writes them all.
+fn key_of(symbols: &Symbols) -> [u8; 48]
+    ensures { result ≡ codes ",\"$" ++ (symbols.now ++ codes "\":") }
+{
+    let mut key = *b",\"$0123456789012345678901234567890123456789012\":";
+    key[3..46].copy_from_slice(symbols);
+    key
+}
+
+/// Appends the verdict about an event that has failed, as it stands behind the colon.
+pub(crate) fn write_error(alloc: Global, out: &mut Vec<u8>, text: &str) -> Result<(), NoMemory>
     ensures { OnOk result (out.new.items ≡ out.old.items ++ verdict_text (Some text.now)) }
 {
     out.extend_from_slice(b"{\"error\":")?;

@@ -1,4 +1,4 @@
-use Rattle.std.proofs.Common.{◌≡◌, List, ℕ, Bool, false, true, [], ◌∷◌, ◌++◌, codes, Option, option_map, sym, ap, subst, ◌∙◌}
+use Rattle.std.proofs.Common.{◌≡◌, List, ℕ, Bool, false, [], ◌∷◌, ◌++◌, codes, Option, option_map, sym, ap, subst, ◌∙◌}
 use Rattle.fed_replies.specs.PackedReply.{Verdict}
 use Rattle.fed_replies.specs.Pieces.{cut, mark_of, AreEntered, IsEntry}
 use Rattle.fed_replies.specs.Plain.{IsPlain}

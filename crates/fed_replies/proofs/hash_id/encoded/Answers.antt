@@ -3,7 +3,7 @@ use Rattle.base64.specs.Engines.{url_safe_no_pad}
 use Rattle.base64.specs.GeneralPurpose.{encode_of}
 use Rattle.fed_replies.specs.Plain.{IsPlain}
 use Rattle.fed_replies.proofs.HashIds.{plain_hash}
-use Rattle.fed_replies.proofs.hash_id.symbols_of.Goals as goal
+use Rattle.fed_replies.proofs.hash_id.encoded.Goals as goal
 
 pub returns-clause-plain : goal.returns-clause-plain
 returns-clause-plain c =
