@@ -1,4 +1,4 @@
-// What holds of all messages, and of all their texts.
+// What holds of all messages, and of all their texts; and the plain program that reads one.
 ghost use Rattle.std.specs.Prelude.{◌≡◌, ◌≢◌, ℕ, List, ◌++◌};
 ghost use Rattle.std.specs.List.{flat_map};
 ghost use Rattle.fed_http.specs.Text.{IsText, HasNoText};
@@ -10,6 +10,10 @@ ghost use Rattle.fed_http.specs.declared.fault.HttpFault.{HttpFault};
 ghost use Rattle.fed_http.specs.declared.fault.HttpFault.TheVariants.{Memory};
 ghost use Rattle.fed_http.specs.declared.message.Kind.{Kind};
 ghost use Rattle.fed_http.specs.declared.message.Message.{Message};
+
+mod plain;
+
+pub use plain::read_message;
 
 /// Bytes begin with the text of one message at most: two texts at their front are one text of one message.
 pub fn texts_are_read_in_one_way()

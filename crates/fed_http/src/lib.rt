@@ -15,11 +15,11 @@
 //! - `framing`: `Framing`, how the end of a body is found
 //! - `chunks`: the chunks of a body
 //! - `finding`: where a message ends, found without memory
-//! - `copying`: `read_message`, from all the bytes of a message to its owned parts
+//! - `copying`: from the parts of a request's head to owned ones
 //! - `opening`: from the bytes of a head to its owned parts
 //! - `place`, `state`: where in a message the bytes so far end, and what is kept of them
 //! - `reader`: `Reader`, which reads messages from a stream of pieces
-//! - `laws`: what holds of all messages and their texts
+//! - `laws`: what holds of all messages and their texts, and `read_message`, the plain program of it
 //! - `writing`: from messages to their bytes, and `phrase`, the phrase of a status
 //! - `sending`: from a reply to a writer, without memory
 //! - `x_matrix`: `XMatrix`, what the Authorization field of a request says, and what is signed for a request
@@ -46,12 +46,11 @@ mod unfinished;
 mod writing;
 mod x_matrix;
 
-pub use copying::read_message;
 pub use fault::HttpFault;
 pub use field::Field;
 pub use framing::Framing;
 pub use laws::{
-    bytes_have_one_fault, cutting_does_not_matter, faults_are_final, faults_stay,
+    bytes_have_one_fault, cutting_does_not_matter, faults_are_final, faults_stay, read_message,
     texts_are_read_in_one_way, who_waits_has_no_fault, who_waits_has_no_message,
 };
 pub use limits::{MAX_BODY, MAX_FIELDS, MAX_HEAD, MAX_LENGTH_DIGITS};

@@ -80,8 +80,8 @@ impl Reader {
     ///
     /// # Errors
     ///
-    /// `Memory` where memory ran out: the reader stands for the same bytes as before, and the piece may be given again. Where the bytes can begin no message,
-    /// and each later call answers `HasFailed`:
+    /// `Memory` where memory ran out: the reader stands for the same bytes as before, and the piece may be given again. Where the bytes can
+    /// begin no message, and each later call answers `HasFailed`:
     ///
     /// - `BadHead`: whatever follows, no head with at most `MAX_FIELDS` fields is at the front; or a reply's status is below 200; or a
     ///   trailer has more than `MAX_FIELDS` fields.

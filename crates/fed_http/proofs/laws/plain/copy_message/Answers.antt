@@ -1,7 +1,7 @@
 use Rattle.std.proofs.Common.{◌∙◌, ap}
 use Rattle.fed_http.specs.declared.message.Message.TheVariants as messages
 use Rattle.fed_http.proofs.Messages.{request_texts, request_is, reply_is, message_at, body_behind}
-use Rattle.fed_http.proofs.copying.copy_message.Goals as goal
+use Rattle.fed_http.proofs.laws.plain.copy_message.Goals as goal
 
 pub copy_request-requires-clause-method_text : goal.copy_request-requires-clause-method_text
 copy_request-requires-clause-method_text c =

@@ -6,7 +6,7 @@ use Rattle.fed_http.specs.Waiting.{IsWaiting}
 use Rattle.fed_http.proofs.Lines.{on_some, on_none}
 use Rattle.fed_http.proofs.Verdicts.{one_fault, fault_never_waits}
 use Rattle.fed_http.proofs.Settled.{fault_never_found}
-use Rattle.fed_http.proofs.copying.read_message.Goals as goal
+use Rattle.fed_http.proofs.laws.plain.read_message.Goals as goal
 
 pub returns-in_err-found-clause-told : goal.returns-in_err-found-clause-told
 returns-in_err-found-clause-told c fault other is =
