@@ -8,5 +8,6 @@ pub mod OneOrder
 pub mod ByDepth
 pub mod AfterEvents
 pub mod Kept
+pub mod SameTips
 pub mod KeysOf
 pub mod StartedRooms

@@ -6,6 +6,7 @@ pub mod Lawful
 pub mod States
 pub mod StatesParts
 pub mod Decision
+pub mod Ids
 pub mod Links
 pub mod LinksParts
 pub mod Room

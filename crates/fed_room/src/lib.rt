@@ -10,6 +10,7 @@
 //! - `started_fault`: why there are none
 //! - `line`: events that stand in one line
 //! - `places`: the places of stored events
+//! - `ids`: ids among other ids
 //! - `links`: what the event of a draft names
 //! - `drafting`: the event that is made of a draft
 //! - `table`: `Table`, verdicts on events and the states before them
@@ -22,6 +23,7 @@ mod creation;
 mod decision;
 mod drafting;
 mod entries;
+mod ids;
 mod laws;
 mod line;
 mod links;

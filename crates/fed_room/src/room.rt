@@ -12,6 +12,7 @@ ghost use Rattle.fed_room.specs.LinksParts.{links_seen};
 
 use crate::decision::{allowed_by_both, state_with};
 use crate::drafting::{check, made};
+use crate::ids::are_same;
 use crate::links::{Links, depth_after, prev_events, selection};
 use crate::places::{places_in, places_of};
 use crate::resolved::Resolved;
@@ -109,7 +110,8 @@ impl Room {
         self.resolved_after(alloc, self.store.extremities())
     }
 
-    // The verdict on an event of this state before it.
+    // The verdict on an event of this state before it. Where it follows just the forward extremities, this is the current state too: then
+    // nothing is resolved for that, and no rule is asked again.
     fn verdict(&self, alloc: Global, event: &Checked, before: &State) -> Result<Verdict, NoMemory>
         requires { before.now ≡ state_before self.now.store.room.stored event.now.event }
         ensures { IfOk result (λ verdict. verdict ≡ verdict_of self.now.store.room.stored event.now) }
@@ -117,6 +119,9 @@ impl Room {
         let graph = self.store.graph();
         if let Err(rule) = allowed_by_both(alloc, graph, event, before)? {
             return Ok(Verdict::Rejected(rule));
+        }
+        if are_same(event.event().prev_events(), self.store.extremities()) {
+            return Ok(Verdict::Accepted);
         }
         let current = self.resolved_now(alloc)?;
         match allowed(graph, event, current.state()) {

@@ -2,12 +2,10 @@
 ghost use Rattle.std.specs.Prelude.{◌≡◌, IfOk, OnOk, OnErr};
 ghost use Rattle.std.specs.FinMap as finite;
 ghost use Rattle.fed_room.specs.Table.{with_row, verdict_at, before_at, current_at, is_named, keeping};
-ghost use Rattle.std.specs.List.{list_any};
-ghost use Rattle.std.specs.Str.{bytes_eq};
-ghost use Rattle.fed_event.specs.EventIds.{ids_left};
 
 use crate::entries::state_of;
-use fed_event::{EventIds, Pdu};
+use crate::ids::has;
+use fed_event::Pdu;
 use fed_json::NoMemory;
 use fed_room_contract::{Graph, State, Verdict};
 use std::alloc::Global;
@@ -118,15 +116,4 @@ fn names(event: &Pdu, id: &str) -> bool
     ensures { result ≡ is_named event.now id.now }
 {
     has(event.prev_events(), id) || has(event.auth_events(), id)
-}
-
-fn has(ids: EventIds<'_>, id: &str) -> bool
-    ensures { result ≡ list_any (λ named. bytes_eq named id.now) (ids_left ids.entry) }
-{
-    for named in ids {
-        if named == id {
-            return true;
-        }
-    }
-    false
 }

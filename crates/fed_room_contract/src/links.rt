@@ -83,6 +83,7 @@ pub(crate) fn add_named(auths: &mut Links, prevs: &mut Links, places: &Places, e
     ensures prevs { (lists : List (List ℕ)) → AreLinks lists prevs.old
         → AreLinks (lists ++ filter_map (place_at places.now) (prev_events_of event.now) ∷ []) prevs.new }
 {
+    // What an event is made of tells how many ids it names at most, which is what there is room for.
     let _json = event.json();
     auths.add(places, event.auth_events());
     prevs.add(places, event.prev_events());

@@ -2,7 +2,7 @@ use Rattle.std.proofs.Common.{◌≡◌}
 use Rattle.std.specs.List.{list_any}
 use Rattle.std.specs.Str.{bytes_eq}
 use Rattle.fed_event.specs.EventIds.{ids_left}
-use Rattle.fed_room.proofs.table.has.Given as goal
+use Rattle.fed_room.proofs.ids.has.Given as goal
 
 -- what is left decides
 abbrev pub invariant-loop-named : goal.invariant-loop-named
