@@ -5,16 +5,16 @@
 #
 #     bench/reading.sh [RUNS [PEER]]
 #
-# PEER is a program that does the same work for `PEER http FILE TIMES PIECE`, to compare with. Prints the time for one request, of the
-# fastest run, less what a run without a request takes, and the peak memory of a run, the text of the request among it. Of large pieces nearly
-# all of the time is one copy of the body, whose pace hangs on where its bytes lie; so that is the mean for heads of eight lengths. Figures of
-# two machines can't be compared.
+# PEER is a program that does the same work for `PEER http FILE TIMES PIECE`, to compare with. Prints the processor time for one request, of
+# the median of the runs, less what a run without a request takes, and the peak memory of a run, the text of the request among it. Both
+# programs run in turn. Of large pieces nearly all of the time is one copy of the body, whose pace hangs on where its bytes lie; so that is
+# the mean for heads of eight lengths. Figures of two machines can't be compared.
 set -e
 here=$(cd "$(dirname "$0")" && pwd)
 program=$here/../crates/fed_bench/out/fed_bench
 [ -x "$program" ] || { echo "no $program: run 'rt run < stdin' in crates/fed_bench first" >&2; exit 2; }
 python3 - "$program" "${1:-3}" "${2:-}" <<'PY'
-import os, subprocess, sys, tempfile, time
+import os, statistics, subprocess, sys, tempfile
 
 program, runs, peer = sys.argv[1], int(sys.argv[2]), sys.argv[3]
 SIZE, CHUNK, SHIFT = 8_000_000, 65_536, 525
@@ -31,18 +31,16 @@ def write_text(file, coding, field):
     file.flush()
 
 
-# The time of a run and its peak memory.
+# The processor time of a run and its peak memory.
 def once(command, given):
     with tempfile.TemporaryFile() as lines:
         lines.write(given)
         lines.seek(0)
-        start = time.perf_counter()
         running = subprocess.Popen(command, stdin=lines, stdout=subprocess.DEVNULL)
         _, status, used = os.wait4(running.pid, 0)
-        took = time.perf_counter() - start
     if status != 0:
         sys.exit(f"{command}: status {status}")
-    return took, used.ru_maxrss / 1024
+    return used.ru_utime + used.ru_stime, used.ru_maxrss / 1024
 
 
 def ours(coding, field, piece, times):
@@ -55,24 +53,24 @@ def theirs(coding, field, piece, times):
         return once([peer, "http", file.name, str(times), str(piece)], b"")
 
 
-# The time for one request, and the peak memory, of so many.
-def cost(read, coding, piece, times):
+# The time for one request, and the peak memory, of so many, for each of these readers.
+def costs(readers, coding, piece, times):
     fields = [k * SHIFT for k in range(8)] if piece >= 4_096 else [0]
-    least, peak = 0.0, 0.0
+    took, peak = [0.0] * len(readers), [0.0] * len(readers)
     for field in fields:
-        some, none = [read(coding, field, piece, times) for _ in range(runs)], [read(coding, field, piece, 0) for _ in range(runs)]
-        least += min(took for took, _ in some) - min(took for took, _ in none)
-        peak = max([peak] + [memory for _, memory in some])
-    return least / times / len(fields), peak
+        rounds = [[(read(coding, field, piece, times), read(coding, field, piece, 0)) for read in readers] for _ in range(runs)]
+        for k in range(len(readers)):
+            took[k] += statistics.median(some[0] - none[0] for some, none in (round[k] for round in rounds))
+            peak[k] = max([peak[k]] + [round[k][0][1] for round in rounds])
+    return [(one / times / len(fields), memory) for one, memory in zip(took, peak)]
 
 
 print("coding   bytes     piece   a request      memory" + ("    the peer's                  ratios" if peer else ""))
 for coding in ("whole", "chunked"):
     for piece, times in ((65_536, 40), (4_096, 40), (256, 20), (16, 10), (1, 2)):
-        one, memory = cost(ours, coding, piece, times)
+        (one, memory), *rest = costs([ours, theirs] if peer else [ours], coding, piece, times)
         row = f"{coding:<8} {SIZE:<9} {piece:<7} {one * 1e3:9.3f} ms {memory:6.1f} MiB"
-        if peer:
-            other, used = cost(theirs, coding, piece, times)
+        for other, used in rest:
             row += f" {other * 1e3:9.3f} ms {used:6.1f} MiB {one / other:7.2f} {memory / used:7.2f}"
         print(row, flush=True)
 PY
