@@ -1,5 +1,5 @@
 // What a reader keeps of a message that is not whole yet.
-ghost use Rattle.std.specs.Prelude.{◌≡◌, ◌≢◌, ◌-◌, ◌+◌, ◌<◌, ◌≤◌, [], List, ℕ, ◌++◌, take, length, vec_len, vec_capacity, Some, None, IfOk, IfErr, IfSome, IfNone};
+ghost use Rattle.std.specs.Prelude.{◌≡◌, ◌≢◌, ◌-◌, ◌+◌, ◌<◌, ◌≤◌, [], List, ℕ, ◌++◌, take, length, true, false, vec_len, vec_capacity, Some, None, IfOk, IfErr, IfSome, IfNone};
 ghost use Rattle.fed_http.specs.Limits.{max_head, max_body, max_held};
 ghost use Rattle.fed_http.specs.Faults.{IsFault};
 ghost use Rattle.fed_http.specs.Keeping.{IsKept, with_body};
@@ -16,6 +16,9 @@ use crate::place::Place;
 use fed_json::NoMemory;
 use std::alloc::Global;
 use std::mem::replace;
+
+// So much memory is taken at first for a body whose length the head says, if it is not shorter: what is as long is moved no more as it grows.
+const FIRST_ROOM: usize = 1_048_576;
 
 /// What is kept of the bytes of a message.
 #[derive(Drop)]
@@ -128,7 +131,7 @@ impl State {
     {
         match place {
             Place::InBody { left } => {
-                self.body.reserve(left.min(more))?;
+                self.body.reserve(left.min(more.max(FIRST_ROOM)))?;
                 Ok(())
             }
             Place::InTrailer => {
@@ -156,6 +159,9 @@ impl State {
         if self.place == Place::Ended {
             return Ok(Some(0));
         }
+        if self.take_middle(rest) {
+            return Ok(None);
+        }
         let mut used = 0;
         'steps: loop {
             used += self.step(&rest[used..])?;
@@ -165,6 +171,27 @@ impl State {
             if used == rest.len() {
                 return Ok(None);
             }
+        }
+    }
+
+    // Takes all of these bytes, where they are of the middle of a body or of a chunk's data, and says whether they are.
+    fn take_middle(&mut self, rest: &[u8]) -> bool
+        requires sound { IsSound (kept_of self.old) }
+        requires room { HasRoomAt self.old.place self.old (length rest.now) }
+        requires begun { self.old.place ≢ InHead }
+        ensures all { result ≡ true → BodyWaits self.old self.new rest.now }
+        ensures none { result ≡ false → self.new ≡ self.old }
+    {
+        match self.place {
+            Place::InBody { left } if rest.len() < left => {
+                self.take_fixed(left, rest);
+                true
+            }
+            Place::InData { left } if rest.len() < left => {
+                self.take_data(left, rest);
+                true
+            }
+            _ => false,
         }
     }
 
@@ -193,7 +220,8 @@ impl State {
         requires some { 0 < left }
         requires at { self.old.place ≡ InBody left }
         requires room { HasRoomAt self.old.place self.old (length rest.now) }
-        ensures { Stepped self.old self.new rest.now result }
+        ensures stepped { Stepped self.old self.new rest.now result }
+        ensures all { length rest.now < left → (result ≡ length rest.now) × (self.new.place ≡ InBody (left - length rest.now)) }
     {
         let taken = left.min(rest.len());
         extend(&mut self.body, &rest[..taken]);
@@ -240,7 +268,8 @@ impl State {
         requires some { 0 < left }
         requires at { self.old.place ≡ InData left }
         requires room { HasRoomAt self.old.place self.old (length rest.now) }
-        ensures { Stepped self.old self.new rest.now result }
+        ensures stepped { Stepped self.old self.new rest.now result }
+        ensures all { length rest.now < left → (result ≡ length rest.now) × (self.new.place ≡ InData (left - length rest.now)) }
     {
         let taken = left.min(rest.len());
         extend(&mut self.body, &rest[..taken]);
