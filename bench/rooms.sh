@@ -1,37 +1,51 @@
 #!/bin/sh
-# Measures what receiving costs as a room grows: the built program crates/fed_bench/out/fed_bench (after `rt run < stdin` there) makes
-# rooms of 1,000 and of 4,000 events, each behind the one before, and receives them one by one into a room that begins with the first.
+# Measures what an event costs in a room, by how many members and how many events it has: the built program crates/fed_bench/out/fed_bench
+# (after `rt run < stdin` there) makes rooms of 2 and of 1,000 members and receives 1,000, 10,000 and 50,000 messages one by one, in one line
+# and with a fork every 10 events.
 #
 #     bench/rooms.sh [RUNS]
 #
-# Prints for each size the least time in all and for one event, and then how many times the smaller size the larger one takes. Figures of
-# two machines can't be compared.
+# Prints for each the least time for an event, of receiving alone, and what the peak memory grows by for an event, the event itself among it;
+# and then how many times those of a room of 2 members they are. What a run of 1,000 messages takes is less than the script's own memory, which
+# counts in the peak. Figures of two machines can't be compared.
 set -e
 here=$(cd "$(dirname "$0")" && pwd)
 program=$here/../crates/fed_bench/out/fed_bench
 [ -x "$program" ] || { echo "no $program: run 'rt run < stdin' in crates/fed_bench first" >&2; exit 2; }
 python3 - "$program" "${1:-3}" <<'PY'
-import subprocess, sys
+import os, subprocess, sys, tempfile
 
 program, runs = sys.argv[1], int(sys.argv[2])
-FIRST = 4
 
 
-def told(size):
-    done = subprocess.run([program], input=f"room {size}\n".encode(), capture_output=True)
-    if done.returncode != 0:
-        sys.exit(f"{program}: {done.stderr.decode()}")
-    received, time = map(int, done.stdout.split())
-    if received != size - FIRST:
-        sys.exit(f"{program}: received {received} of {size - FIRST} events")
-    return time
+# The time of receiving in microseconds, and the peak memory of the run in bytes.
+def told(members, messages, fork):
+    with tempfile.TemporaryFile() as lines, tempfile.TemporaryFile() as said:
+        lines.write(b"room %d %d %d\n" % (members, messages, fork))
+        lines.seek(0)
+        running = subprocess.Popen([program], stdin=lines, stdout=said)
+        _, status, used = os.wait4(running.pid, 0)
+        said.seek(0)
+        counts = said.read().split()
+    if status != 0 or int(counts[0]) != messages:
+        sys.exit(f"{program}: status {status}, received {counts} of {messages} messages")
+    return int(counts[1]), used.ru_maxrss * 1024
 
 
-print("events   time in all     time/event")
-leasts = []
-for size in (1_000, 4_000):
-    least = min(told(size) for _ in range(runs))
-    leasts.append(least)
-    print(f"{size:<8} {least / 1e3:8.3f} ms {least / (size - FIRST):11.1f} us")
-print(f"four times the events take {leasts[1] / leasts[0]:.1f} times as long")
+# How many times one figure another one is; of memory that is less than what the script itself holds there is none.
+def ratio(one, other):
+    return f"{one / other:6.2f}" if other > 0 else "     -"
+
+
+print("fork  messages     2 members              1,000 members           ratios")
+for fork in (0, 10):
+    for messages in (1_000, 10_000, 50_000):
+        cells = []
+        for members in (2, 1_000):
+            empty = min(told(members, 0, 0)[1] for _ in range(runs))
+            rows = [told(members, messages, fork) for _ in range(runs)]
+            cells.append((min(time for time, _ in rows) / messages, (min(peak for _, peak in rows) - empty) / messages))
+        (time, memory), (longer, larger) = cells
+        figures = f"{time:8.2f} us {memory:7.0f} B {longer:10.2f} us {larger:7.0f} B"
+        print(f"{fork:<5} {messages:<9} {figures} {ratio(longer, time)} {ratio(larger, memory)}", flush=True)
 PY

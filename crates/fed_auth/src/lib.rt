@@ -40,7 +40,7 @@ pub use laws::{selections_pass, the_selection_decides, what_an_auth_state_has, w
 pub use level::Level;
 pub use levels::Levels;
 pub use membership::Membership;
-pub use rules::{allowed, allowed_by};
+pub use rules::{allowed, allowed_by, allowed_in};
 pub use selector::{Key, Selector, selection};
 pub use state_view::creator;
 pub use version::{ROOM_VERSION, is_known_version};

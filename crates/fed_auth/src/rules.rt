@@ -1,6 +1,7 @@
 // Whether a room allows an event.
 ghost use Rattle.std.specs.Prelude.{◌≡◌, Some, option_map};
 ghost use Rattle.fed_event.specs.EventId.{event_id_of};
+ghost use Rattle.fed_room_contract.specs.StateRef.{seen};
 ghost use Rattle.fed_auth.specs.Table.{decide};
 ghost use Rattle.fed_auth.specs.StateView.{create_event};
 ghost use Rattle.fed_auth.specs.StateViewParts.{look_of};
@@ -14,7 +15,7 @@ use crate::membership::Membership;
 use crate::power_rules::allow_levels;
 use crate::state_view::StateView;
 use fed_event::{Checked, EventId, Pdu};
-use fed_room_contract::{Graph, Rule, State};
+use fed_room_contract::{Graph, Rule, State, StateRef};
 
 /// Whether a room in this state allows an event: the authorization rules (room version 10, "Authorization rules") but rule 2, on the auth
 /// events, by the events that the state names in the graph. An event that the state names and the graph does not have counts as
@@ -25,6 +26,17 @@ use fed_room_contract::{Graph, Rule, State};
 /// The first rule that holds, where it rejects the event; 2.4 where the state names no create event and this is none.
 pub fn allowed(graph: &Graph, event: &Checked, state: &State) -> Result<(), Rule>
     ensures { result ≡ allowed_of graph.now.stored event.now state.now }
+{
+    allowed_in(graph, event, StateRef::Whole(state))
+}
+
+/// The same in a state that is whole or kept by an earlier one.
+///
+/// # Errors
+///
+/// Those of `allowed`.
+pub fn allowed_in(graph: &Graph, event: &Checked, state: StateRef<'_>) -> Result<(), Rule>
+    ensures { result ≡ allowed_of graph.now.stored event.now (seen state.entry) }
 {
     allow(StateView::Named(graph, state), first_id(graph), event)
 }

@@ -2,11 +2,12 @@
 ghost use Rattle.std.specs.Prelude.{◌≡◌, IfOk, OnOk, option_map};
 ghost use Rattle.fed_auth.specs.Selection.{is_by_join_rules, selector_of, entry_of, with_id, selection_of};
 ghost use Rattle.fed_auth.specs.SelectionKey.{seen};
+ghost use Rattle.fed_room_contract.specs.StateRef.{seen as state_seen};
 
 use crate::membership::Membership;
 use fed_event::{EventId, Pdu, authorising_user_in};
 use fed_json::{JsonRef, NoMemory};
-use fed_room_contract::State;
+use fed_room_contract::{State, StateRef};
 use std::alloc::Global;
 use std::marker::Model;
 
@@ -92,6 +93,17 @@ impl<'a> Selector<'a> {
     /// `NoMemory`.
     pub fn select(&self, alloc: Global, state: &State) -> Result<Vec<EventId>, NoMemory>
         ensures { IfOk result (λ ids. ids.items ≡ selection_of self.now state.now) }
+    {
+        self.select_in(alloc, StateRef::Whole(state))
+    }
+
+    /// The same in a state that is whole or kept by an earlier one.
+    ///
+    /// # Errors
+    ///
+    /// `NoMemory`.
+    pub fn select_in(&self, alloc: Global, state: StateRef<'_>) -> Result<Vec<EventId>, NoMemory>
+        ensures { IfOk result (λ ids. ids.items ≡ selection_of self.now (state_seen state.entry)) }
     {
         let mut ids = Vec::new(alloc);
         for key in self.keys() {
@@ -196,8 +208,8 @@ fn add(alloc: Global, ids: &mut Vec<EventId>, id: Option<&EventId>) -> Result<()
 }
 
 // The id that a state has at a key of the selection.
-fn entry<'a>(state: &'a State, key: Option<Key<'_>>) -> Option<&'a EventId>
-    ensures { option_map (λ id. id.now) result ≡ entry_of state.now (option_map seen key.entry) }
+fn entry<'a>(state: StateRef<'a>, key: Option<Key<'_>>) -> Option<&'a EventId>
+    ensures { option_map (λ id. id.now) result ≡ entry_of (state_seen state.entry) (option_map seen key.entry) }
 {
     let key = key?;
     state.get(key.kind, key.state_key)

@@ -2,6 +2,7 @@
 ghost use Rattle.std.specs.Prelude.{◌≡◌, Some, option_map};
 ghost use Rattle.fed_json.specs.JsonRef.{seen};
 ghost use Rattle.fed_auth.specs.StateView.{creator_in, event_among, event_in, is_at, is_first_join};
+ghost use Rattle.fed_room_contract.specs.StateRef.{seen as state_seen};
 
 use crate::event_rules::is_only;
 use crate::join_rule::JoinRule;
@@ -10,13 +11,13 @@ use crate::member_rules::{ActionLevels, Member, MemberFacts};
 use crate::membership::Membership;
 use fed_event::{Pdu, authorising_user};
 use fed_json::JsonRef;
-use fed_room_contract::{Graph, State};
+use fed_room_contract::{Graph, StateRef};
 
 // A state: the events that hold in a room.
 #[derive(Clone, Copy)]
 pub(crate) enum StateView<'a> {
     // The ids of these, and the graph that has the events.
-    Named(&'a Graph, &'a State),
+    Named(&'a Graph, StateRef<'a>),
     // The events.
     Listed(&'a [Pdu]),
 }
@@ -126,8 +127,13 @@ impl<'a> StateView<'a> {
 
 // The event that the state names at this type and state key.
 #[tactic(auto, unfolding(crate::specs::StateView::event_in))]
-fn named_event<'a>(graph: &'a Graph, state: &State, kind: &str, state_key: &str) -> Option<&'a Pdu>
-    ensures { option_map (λ event. event.now) result ≡ event_in graph.now.stored state.now kind.now state_key.now }
+fn named_event<'a>(
+    graph: &'a Graph,
+    state: StateRef<'_>,
+    kind: &str,
+    state_key: &str,
+) -> Option<&'a Pdu>
+    ensures { option_map (λ event. event.now) result ≡ event_in graph.now.stored (state_seen state.entry) kind.now state_key.now }
 {
     let id = state.get(kind, state_key)?;
     let stored = graph.get(id.as_str())?;

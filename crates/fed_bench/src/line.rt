@@ -1,5 +1,6 @@
 // The lines of the input.
 use crate::reading::Reading;
+use crate::receiving::Receiving;
 
 /// What a line asks for.
 #[derive(Clone, Copy)]
@@ -7,7 +8,7 @@ pub(crate) enum Line<'a> {
     Send(u64),
     Read(Reading),
     Resolve(&'a str),
-    Room(u64),
+    Room(Receiving),
 }
 
 /// What a line asks for, where it has the right words.
@@ -17,9 +18,19 @@ pub(crate) fn line_of(line: &str) -> Option<Line<'_>> {
         "send" => Some(Line::Send(words.parse().ok()?)),
         "read" => Some(Line::Read(reading_of(words)?)),
         "resolve" => Some(Line::Resolve(words)),
-        "room" => Some(Line::Room(words.parse().ok()?)),
+        "room" => Some(Line::Room(receiving_of(words)?)),
         _ => None,
     }
+}
+
+fn receiving_of(words: &str) -> Option<Receiving> {
+    let (members, numbers) = words.split_once(' ')?;
+    let (messages, fork) = numbers.split_once(' ')?;
+    Some(Receiving {
+        members: members.parse().ok()?,
+        messages: messages.parse().ok()?,
+        fork: fork.parse().ok()?,
+    })
 }
 
 fn reading_of(words: &str) -> Option<Reading> {

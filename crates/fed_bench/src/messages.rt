@@ -1,4 +1,4 @@
-// Events of a room, each of which names the one before it.
+// Events of a room, in one line or with forks.
 use crate::stop::Stop;
 use fed_event::{Checked, Keys, PduFault, StandIn, is_sent_by, seal};
 use fed_json::{Json, MAX_LEVELS, read_within};
@@ -7,6 +7,7 @@ use std::alloc::Global;
 
 pub(crate) const OWN: &str = "a.example";
 
+// The first user of a room.
 const USER: &str = "@u:a.example";
 
 const ROOM: &str = "!r:a.example";
@@ -16,10 +17,16 @@ pub(crate) fn keys(alloc: Global) -> Result<StandIn, Stop> {
     Ok(StandIn::new(String::from_str(alloc, OWN)?))
 }
 
-/// The events that a room of one user begins with.
-pub(crate) fn beginning(alloc: Global, keys: StandIn) -> Result<Vec<Checked>, Stop> {
+// How many events a room of one user begins with.
+const FIRST: usize = 4;
+
+/// The events that a room of so many users begins with.
+pub(crate) fn beginning(alloc: Global, members: u64, keys: StandIn) -> Result<Vec<Checked>, Stop> {
     let mut users = Vec::new(alloc);
     users.push(String::from_str(alloc, USER)?)?;
+    for number in 1..members {
+        users.push(format!(in alloc; "@u{number}:a.example")?)?;
+    }
     let mut rings = Vec::new(alloc);
     rings.push(keys)?;
     match started(alloc, ROOM, &users, &rings) {
@@ -29,48 +36,94 @@ pub(crate) fn beginning(alloc: Global, keys: StandIn) -> Result<Vec<Checked>, St
     }
 }
 
-/// So many messages of the user behind these events.
+/// So many messages of the first user behind these events. Of each `fork` one after another, where that is not 0, the last but one follows the
+/// event before the one before it, and the last follows both.
 pub(crate) fn messages(
     alloc: Global,
     beginning: &[Checked],
     count: u64,
+    fork: u64,
     keys: &StandIn,
 ) -> Result<Vec<Checked>, Stop> {
     let auth_events = auth_events(alloc, beginning)?;
     let mut messages = Vec::new(alloc);
-    for _ in 0..count {
-        let Some(before) = messages.last().or(beginning.last()) else {
-            return Err(Stop::Refused);
-        };
-        let message = message(alloc, before, &auth_events, keys)?;
+    for number in 1..=count {
+        let behind = places_behind(number, fork);
+        let prevs = [
+            event_at(beginning, &messages, behind[0]),
+            event_at(beginning, &messages, behind[1]),
+        ];
+        let message = message(alloc, number, prevs, &auth_events, keys)?;
         messages.push(message)?;
     }
     Ok(messages)
 }
 
-// The ids of the auth events that a message has, as texts of JSON with commas between them: all but the join rules.
+// How far before a message, whose number counts from 1, its prev events are; 0 where there is none.
+fn places_behind(number: u64, fork: u64) -> [usize; 2] {
+    if fork < 3 || number < fork {
+        return [1, 0];
+    }
+    match number.checked_rem(fork) {
+        Some(0) => [1, 2],
+        Some(last) if last == fork.saturating_sub(1) => [2, 0],
+        _ => [1, 0],
+    }
+}
+
+// The event so far before the next one, where there is one.
+fn event_at<'a>(
+    beginning: &'a [Checked],
+    messages: &'a [Checked],
+    behind: usize,
+) -> Option<&'a Checked> {
+    if behind == 0 {
+        return None;
+    }
+    match messages.len().checked_sub(behind) {
+        Some(place) => messages.get(place),
+        None => beginning.last(),
+    }
+}
+
+// The ids of the auth events that a message of the first user has, as texts of JSON with commas between them: of the events that a room of
+// one user begins with all but the join rules.
 fn auth_events(alloc: Global, beginning: &[Checked]) -> Result<String, Stop> {
     let mut ids = String::new(alloc);
-    for event in beginning {
+    for event in beginning.get(..FIRST).unwrap_or(beginning) {
         if event.event().kind() != "m.room.join_rules" {
-            let comma = if ids.is_empty() { "" } else { "," };
-            ids.push_str(&format!(in alloc; "{comma}\"{}\"", event.event().id())?)?;
+            push_id(alloc, event, &mut ids)?;
         }
     }
     Ok(ids)
 }
 
-// A small message behind an event.
+// Adds the id of an event to texts of JSON.
+fn push_id(alloc: Global, event: &Checked, ids: &mut String) -> Result<(), Stop> {
+    let comma = if ids.is_empty() { "" } else { "," };
+    ids.push_str(&format!(in alloc; "{comma}\"{}\"", event.event().id())?)?;
+    Ok(())
+}
+
+// A small message of this number behind these events.
 fn message(
     alloc: Global,
-    before: &Checked,
+    number: u64,
+    prevs: [Option<&Checked>; 2],
     auth_events: &str,
     keys: &StandIn,
 ) -> Result<Checked, Stop> {
-    let prev = before.event().id();
-    let depth = before.event().depth().saturating_add(1);
+    let mut prev = String::new(alloc);
+    let mut deepest = 0;
+    for event in prevs {
+        if let Some(event) = event {
+            push_id(alloc, event, &mut prev)?;
+            deepest = event.event().depth().max(deepest);
+        }
+    }
+    let depth = deepest.saturating_add(1);
     let text = format!(in alloc;
-        "{{\"auth_events\":[{auth_events}],\"content\":{{\"body\":\"message {depth}\",\"msgtype\":\"m.text\"}},\"depth\":{depth},\"origin_server_ts\":{depth},\"prev_events\":[\"{prev}\"],\"room_id\":\"{ROOM}\",\"sender\":\"{USER}\",\"type\":\"m.room.message\"}}"
+        "{{\"auth_events\":[{auth_events}],\"content\":{{\"body\":\"message {number}\",\"msgtype\":\"m.text\"}},\"depth\":{depth},\"origin_server_ts\":{depth},\"prev_events\":[{prev}],\"room_id\":\"{ROOM}\",\"sender\":\"{USER}\",\"type\":\"m.room.message\"}}"
     )?;
     match read_within(alloc, text.as_bytes(), MAX_LEVELS) {
         Ok(parts) => sealed(alloc, parts, keys),

@@ -7,13 +7,25 @@ use fed_room_contract::{Receipt, RoomEngine};
 use std::alloc::Global;
 use std::time::Instant;
 
-/// How many of the events of a room of so many a room receives and accepts behind those that it begins with, and the time in
-/// microseconds.
-pub(crate) fn receive(rt: &HostRuntime, events: u64) -> Result<String, Stop> {
+/// What a room is of and receives: so many members, then so many messages, with a fork at each so many of them where that is not 0.
+#[derive(Clone, Copy)]
+pub(crate) struct Receiving {
+    pub(crate) members: u64,
+    pub(crate) messages: u64,
+    pub(crate) fork: u64,
+}
+
+/// How many messages a room receives and accepts behind the events that it begins with, and the time in microseconds.
+pub(crate) fn receive(rt: &HostRuntime, receiving: Receiving) -> Result<String, Stop> {
     let alloc = rt.alloc();
-    let first = beginning(alloc, keys(alloc)?)?;
-    let count = events.saturating_sub(first.len() as u64);
-    let messages = messages(alloc, &first, count, &keys(alloc)?)?;
+    let first = beginning(alloc, receiving.members, keys(alloc)?)?;
+    let messages = messages(
+        alloc,
+        &first,
+        receiving.messages,
+        receiving.fork,
+        &keys(alloc)?,
+    )?;
     let mut room = begun(alloc, first)?;
     let start = Instant::now(rt)?;
     let received = receive_all(alloc, &mut room, messages)?;

@@ -16,7 +16,7 @@ use Rattle.fed_room_contract.proofs.Graphs.{graph_grows}
 use Rattle.fed_room.specs.Room.{room_rules}
 use Rattle.fed_room.specs.Start.{is_taken}
 use Rattle.fed_room.specs.States.{state_with, state_before, states_after}
-use Rattle.fed_room.specs.StatesParts.{KeptStates}
+use Rattle.fed_room_contract.specs.Steps.{KeptStates}
 use Rattle.fed_room.specs.RoomLawful.{kept-push}
 
 -- the graph and the kept states with one event more

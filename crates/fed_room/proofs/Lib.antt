@@ -9,5 +9,6 @@ pub mod ByDepth
 pub mod AfterEvents
 pub mod Kept
 pub mod SameTips
+pub mod OneState
 pub mod KeysOf
 pub mod StartedRooms

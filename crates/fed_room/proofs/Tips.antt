@@ -29,6 +29,26 @@ tip-inserted events id (x ∷ ids) = by (is_lt (tip_cmp events x id)) (tip-inser
     by true rest = ap (λ xs. x ∷ xs) rest ∙ ap (λ k. insert (x ∷ ids) k id) (sym one)
     by false rest = refl
 
+take_fewer : {X : Type 0} (m : ℕ) (xs : List X) → take m (take (suc m) xs) ≡ take m xs
+take_fewer zero xs = refl
+take_fewer (suc m) [] = refl
+take_fewer (suc m) (x ∷ xs) = ap (λ ys. x ∷ ys) (take_fewer m xs)
+
+-- the first of some ids with one more are those of the first ones with it
+pub first-tips : (events : List Stored) (id : List ℕ) (n : ℕ) (ids : List (List ℕ)) → take n (with_tip events id (take n ids)) ≡ take n (with_tip events id ids)
+first-tips events id zero ids = refl
+first-tips events id (suc n) [] = refl
+first-tips events id (suc n) (x ∷ ids) = by (is_lt (tip_cmp events x id)) (first-tips events id n ids)
+  where
+    shorter : (n : ℕ) → take n (x ∷ take n ids) ≡ take n (x ∷ ids)
+    shorter zero = refl
+    shorter (suc m) = ap (λ xs. x ∷ xs) (take_fewer m ids)
+
+    by : (b : Bool) → take n (with_tip events id (take n ids)) ≡ take n (with_tip events id ids)
+        → take (suc n) (if b then x ∷ with_tip events id (take n ids) else id ∷ x ∷ take n ids) ≡ take (suc n) (if b then x ∷ with_tip events id ids else id ∷ x ∷ ids)
+    by true rest = ap (λ xs. x ∷ xs) rest
+    by false rest = ap (λ xs. id ∷ xs) (shorter n)
+
 at_most : {X : Type 0} (p : X → Bool) (xs : List X) → position_or_len p xs ≤ length xs
 at_most p [] = omega arith
 at_most p (x ∷ xs) =

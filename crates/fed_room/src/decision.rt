@@ -3,13 +3,14 @@ ghost use Rattle.std.specs.Prelude.{◌≡◌, IfOk, OnOk};
 ghost use Rattle.fed_event.specs.EventId.{event_id_of};
 ghost use Rattle.fed_event.specs.Fields.{kind_of, state_key_of};
 ghost use Rattle.fed_auth.specs.AuthState.{auth_state_of, with_id_at};
+ghost use Rattle.fed_room_contract.specs.StateRef.{seen};
 ghost use Rattle.fed_room.specs.Decision.{allowed_by_auth, allowed_by_both};
 ghost use Rattle.fed_room.specs.States.{state_before, state_with};
 
-use fed_auth::{allowed, auth_state};
+use fed_auth::{allowed, allowed_in, auth_state};
 use fed_event::{Checked, Pdu};
 use fed_json::NoMemory;
-use fed_room_contract::{Graph, Rule, State, Verdict};
+use fed_room_contract::{Graph, Rule, State, StateRef, Verdict};
 use std::alloc::Global;
 
 /// Checks 4 and 5 (Server-Server API, "Checks performed on receipt of a PDU"): whether an event is allowed by its auth events, and then
@@ -22,14 +23,14 @@ pub(crate) fn allowed_by_both(
     alloc: Global,
     graph: &Graph,
     event: &Checked,
-    before: &State,
+    before: StateRef<'_>,
 ) -> Result<Result<(), Rule>, NoMemory>
-    requires { before.now ≡ state_before graph.now.stored event.now.event }
+    requires { seen before ≡ state_before graph.now.stored event.now.event }
     ensures { IfOk result (λ answer. answer ≡ allowed_by_both graph.now.stored event.now
         (allowed_by_auth graph.now.stored event.now (auth_state_of graph.now.stored event.now.event))) }
 {
     match allowed_by_auth(alloc, graph, event)? {
-        Ok(()) => Ok(allowed(graph, event, before)),
+        Ok(()) => Ok(allowed_in(graph, event, before)),
         Err(rule) => Ok(Err(rule)),
     }
 }

@@ -1,8 +1,8 @@
 //! What keeps a room under the contract of rooms: a room by the standard, and one by a table that a test gives.
 //!
 //! - `room`: `Room`, a room by the standard
-//! - `states`: the states after its events
 //! - `resolved`: states that are kept or made
+//! - `after`: `After`, the state after an event
 //! - `decision`: the verdict on an event, and the state after it
 //! - `start`: a room that begins with some events
 //! - `start_fault`: why no room begins with some events
@@ -19,6 +19,7 @@
 //! - `laws`: what holds of states, of new events and of all rooms that begin with some events
 #![tactic(auto)]
 
+mod after;
 mod creation;
 mod decision;
 mod drafting;
@@ -33,7 +34,6 @@ mod room;
 mod start;
 mod start_fault;
 mod started_fault;
-mod states;
 mod table;
 mod table_room;
 

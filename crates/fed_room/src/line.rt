@@ -13,7 +13,7 @@ use crate::drafting::{check_depth, sealed};
 use crate::links::{Links, next_depth, selection};
 use fed_event::{Checked, EventId, Keys, PduFault};
 use fed_json::NoMemory;
-use fed_room_contract::{Draft, State, Verdict};
+use fed_room_contract::{Draft, State, StateRef, Verdict};
 use std::alloc::Global;
 
 /// Events each of which names the one before it, all of them accepted, and the state after the last.
@@ -74,7 +74,7 @@ impl Line {
     {
         let last = self.events.last();
         Ok(Links {
-            auth_events: selection(alloc, draft, &self.state)?,
+            auth_events: selection(alloc, draft, StateRef::Whole(&self.state))?,
             prev_events: prev_events_after(alloc, last)?,
             depth: depth_after_event(last),
         })

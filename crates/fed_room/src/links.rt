@@ -1,5 +1,5 @@
 // What the event of a draft names.
-ghost use Rattle.std.specs.Prelude.{◌≡◌, ◌∷◌, ◌≤◌, [], true, pos, length, not, position, IfOk, OnOk, option_map};
+ghost use Rattle.std.specs.Prelude.{◌≡◌, ◌∷◌, ◌≤◌, [], take, true, pos, length, not, position, IfOk, OnOk, option_map};
 ghost use Rattle.std.specs.List.{list_all, position_or_len};
 ghost use Rattle.std.specs.Ordering.{is_lt};
 ghost use Rattle.serde_json.specs.Find.{of_integer};
@@ -8,13 +8,14 @@ ghost use Rattle.fed_room_contract.specs.Graph.{is_stored};
 ghost use Rattle.fed_room_contract.specs.Room.{extremities_of};
 ghost use Rattle.fed_room.specs.Links.{depth_at, tip_cmp, with_tip, by_depth, prev_events_for, next_depth, depth_after, selector_of_draft};
 ghost use Rattle.fed_auth.specs.Selection.{selection_of};
+ghost use Rattle.fed_room_contract.specs.StateRef.{seen as ref_seen};
 ghost use Rattle.fed_room.specs.LinksParts.{links_seen};
 ghost use Rattle.fed_room.specs.Parts.{no_links};
 
 use fed_auth::Selector;
 use fed_event::{EventId, MAX_PREV_EVENTS};
 use fed_json::NoMemory;
-use fed_room_contract::{Draft, Graph, State};
+use fed_room_contract::{Draft, Graph, StateRef};
 use std::alloc::Global;
 use std::cmp::Ordering;
 
@@ -53,9 +54,7 @@ pub(crate) fn prev_events(
     requires { extremities.now ≡ extremities_of graph.now.stored }
     ensures { IfOk result (λ ids. ids.items ≡ prev_events_for graph.now.stored) }
 {
-    let mut ids = by_depth(alloc, graph, extremities)?;
-    ids.truncate(MAX_PREV_EVENTS);
-    Ok(ids)
+    deepest(alloc, graph, extremities)
 }
 
 /// The depth of an event of these prev events, which stand in the order of their depth: one more than the greatest, and at most 2^53 - 1;
@@ -74,9 +73,9 @@ pub(crate) fn depth_after(graph: &Graph, prev_events: &[EventId]) -> i64
 pub(crate) fn selection(
     alloc: Global,
     draft: &Draft,
-    before: &State,
+    before: StateRef<'_>,
 ) -> Result<Vec<EventId>, NoMemory>
-    ensures { IfOk result (λ ids. ids.items ≡ selection_of (selector_of_draft draft.now) before.now) }
+    ensures { IfOk result (λ ids. ids.items ≡ selection_of (selector_of_draft draft.now) (ref_seen before.entry)) }
 {
     let selector = Selector::new(
         draft.kind.as_str(),
@@ -84,7 +83,7 @@ pub(crate) fn selection(
         draft.state_key.as_deref(),
         draft.content.root(),
     );
-    selector.select(alloc, before)
+    selector.select_in(alloc, before)
 }
 
 /// One more, in the range of an event's numbers.
@@ -95,9 +94,9 @@ pub(crate) fn next_depth(depth: i64) -> i64
     depth.saturating_add(1).min(MAX_WHOLE).max(-MAX_WHOLE)
 }
 
-// Ids in the order of their depth.
-fn by_depth(alloc: Global, graph: &Graph, ids: &[EventId]) -> Result<Vec<EventId>, NoMemory>
-    ensures { IfOk result (λ sorted. sorted.items ≡ by_depth graph.now.stored ids.now) }
+// The first of some ids in the order of their depth, at most `MAX_PREV_EVENTS`.
+fn deepest(alloc: Global, graph: &Graph, ids: &[EventId]) -> Result<Vec<EventId>, NoMemory>
+    ensures { IfOk result (λ first. first.items ≡ take 20 (by_depth graph.now.stored ids.now)) }
 {
     let mut sorted = Vec::new(alloc);
     for place in (0..ids.len()).rev() {
@@ -106,12 +105,13 @@ fn by_depth(alloc: Global, graph: &Graph, ids: &[EventId]) -> Result<Vec<EventId
     Ok(sorted)
 }
 
-// One more id in this order.
+// Puts one more id among these, where it stands in this order, and leaves the first of them.
 fn add(graph: &Graph, id: EventId, sorted: &mut Vec<EventId>) -> Result<(), NoMemory>
-    ensures { OnOk result (sorted.new.items ≡ with_tip graph.now.stored id sorted.old.items) }
+    ensures { OnOk result (sorted.new.items ≡ take 20 (with_tip graph.now.stored id sorted.old.items)) }
 {
     let place = place_for(graph, &id, sorted);
     sorted.insert(place, id)?;
+    sorted.truncate(MAX_PREV_EVENTS);
     Ok(())
 }
 

@@ -4,24 +4,26 @@ ghost use Rattle.std.specs.List.{list_all};
 ghost use Rattle.fed_room_contract.specs.Graph.{is_stored, is_ready};
 ghost use Rattle.fed_room_contract.specs.Room.{empty_room, event_id};
 ghost use Rattle.fed_room_contract.specs.Store.{after_store};
-ghost use Rattle.fed_room.specs.StatesParts.{seen};
-ghost use Rattle.fed_room.specs.States.{resolved_after, state_before, current_state, state_with};
+ghost use Rattle.fed_room_contract.specs.StateRef.{seen as ref_seen};
+ghost use Rattle.fed_room.specs.StatesParts.{seen, after_seen, IsThere, IsThereIn, IsKeptIn};
+ghost use Rattle.fed_room.specs.States.{resolved_after, state_before, current_state, state_with, states_after};
 ghost use Rattle.fed_room.specs.Decision.{verdict_of};
 ghost use Rattle.fed_room.specs.Links.{links_of};
 ghost use Rattle.fed_room.specs.LinksParts.{links_seen};
 
-use crate::decision::{allowed_by_both, state_with};
+use crate::after::After;
+use crate::decision::allowed_by_both;
 use crate::drafting::{check, made};
 use crate::ids::are_same;
 use crate::links::{Links, depth_after, prev_events, selection};
 use crate::places::{places_in, places_of};
-use crate::resolved::Resolved;
-use crate::states::States;
-use fed_auth::{Selector, allowed};
+use crate::resolved::{Resolved, resolved_at};
+use fed_auth::{Selector, allowed_in};
 use fed_event::{Checked, EventId, Keys, Pdu};
 use fed_json::NoMemory;
 use fed_room_contract::{
-    Arrival, Draft, EventStore, Graph, Prepared, Receipt, Refusal, RoomEngine, State, Verdict,
+    Arrival, Draft, EventStore, Graph, Prepared, Receipt, Refusal, RoomEngine, State, StateRef,
+    Steps, Verdict,
 };
 use std::alloc::Global;
 use std::marker::Model;
@@ -29,7 +31,7 @@ use std::marker::Model;
 /// A room of version 10, at a server: it decides on each event by the authorization rules, by the event's auth events, by the state
 /// before it and by the current state (Server-Server API, "Checks performed on receipt of a PDU", checks 4 to 6). The state before an
 /// event is what the states after its prev events resolve to, and the current state what those after the forward extremities do. The
-/// state after each stored event is kept whole.
+/// state after each stored event is kept as a step from an earlier one.
 ///
 /// The event that it makes of a draft follows the forward extremities, at most `MAX_PREV_EVENTS`, the deepest first, and has the auth
 /// events that the state before it selects.
@@ -39,7 +41,7 @@ use std::marker::Model;
 pub struct Room {
     own: String,
     store: EventStore,
-    states: States,
+    states: Steps,
 }
 
 impl Model for Room {
@@ -69,7 +71,7 @@ impl Room {
         Ok(Room {
             own: String::from_str(alloc, own)?,
             store: EventStore::new(alloc),
-            states: States::new(alloc),
+            states: Steps::new(alloc),
         })
     }
 
@@ -85,10 +87,11 @@ impl Room {
         requires { list_all (is_stored self.now.store.room.stored) ids.now ≡ true }
         ensures state { IfOk result (λ resolved. seen resolved ≡ resolved_after self.now.store.room.stored ids.now) }
         ensures named { IfOk result (λ resolved. NamesStored self.now.store.room.stored (seen resolved)) }
+        ensures kept { IfOk result (IsKeptIn (states_after self.now.store.room.stored)) }
     {
         let graph = self.store.graph();
         let places = places_of(alloc, graph, ids)?;
-        self.states.resolved(alloc, graph, &places)
+        resolved_at(alloc, graph, &self.states, &places)
     }
 
     // The state before an event that is ready.
@@ -96,24 +99,31 @@ impl Room {
         requires { is_ready self.now.store.room.stored event.now ≡ true }
         ensures state { IfOk result (λ resolved. seen resolved ≡ state_before self.now.store.room.stored event.now) }
         ensures named { IfOk result (λ resolved. NamesStored self.now.store.room.stored (seen resolved)) }
+        ensures kept { IfOk result (IsKeptIn (states_after self.now.store.room.stored)) }
     {
         let graph = self.store.graph();
         let places = places_in(alloc, graph, event.prev_events())?;
-        self.states.resolved(alloc, graph, &places)
+        resolved_at(alloc, graph, &self.states, &places)
     }
 
     // The current state.
     fn resolved_now(&self, alloc: Global) -> Result<Resolved<'_>, NoMemory>
         ensures state { IfOk result (λ resolved. seen resolved ≡ current_state self.now.store.room.stored) }
         ensures named { IfOk result (λ resolved. NamesStored self.now.store.room.stored (seen resolved)) }
+        ensures kept { IfOk result (IsKeptIn (states_after self.now.store.room.stored)) }
     {
         self.resolved_after(alloc, self.store.extremities())
     }
 
     // The verdict on an event of this state before it. Where it follows just the forward extremities, this is the current state too: then
     // nothing is resolved for that, and no rule is asked again.
-    fn verdict(&self, alloc: Global, event: &Checked, before: &State) -> Result<Verdict, NoMemory>
-        requires { before.now ≡ state_before self.now.store.room.stored event.now.event }
+    fn verdict(
+        &self,
+        alloc: Global,
+        event: &Checked,
+        before: StateRef<'_>,
+    ) -> Result<Verdict, NoMemory>
+        requires { ref_seen before ≡ state_before self.now.store.room.stored event.now.event }
         ensures { IfOk result (λ verdict. verdict ≡ verdict_of self.now.store.room.stored event.now) }
     {
         let graph = self.store.graph();
@@ -124,21 +134,23 @@ impl Room {
             return Ok(Verdict::Accepted);
         }
         let current = self.resolved_now(alloc)?;
-        match allowed(graph, event, current.state()) {
+        match allowed_in(graph, event, current.state()) {
             Ok(()) => Ok(Verdict::Accepted),
             Err(rule) => Ok(Verdict::SoftFailed(rule)),
         }
     }
 
     // The verdict on an event that is ready, and the state after it.
-    fn decided(&self, alloc: Global, event: &Checked) -> Result<(Verdict, State), NoMemory>
+    fn decided(&self, alloc: Global, event: &Checked) -> Result<(Verdict, After), NoMemory>
         requires { is_ready self.now.store.room.stored event.now.event ≡ true }
         ensures verdict { IfOk result (λ r. r.0 ≡ verdict_of self.now.store.room.stored event.now) }
-        ensures after { IfOk result (λ r. r.1 ≡ state_with (state_before self.now.store.room.stored event.now.event) (record { event = event.now; verdict = r.0 })) }
+        ensures there { IfOk result (λ r. IsThereIn (states_after self.now.store.room.stored) r.1) }
+        ensures after { IfOk result (λ r. after_seen (states_after self.now.store.room.stored) event.now.event r.1
+            ≡ state_with (state_before self.now.store.room.stored event.now.event) (record { event = event.now; verdict = r.0 })) }
     {
         let before = self.resolved_before(alloc, event.event())?;
         let verdict = self.verdict(alloc, event, before.state())?;
-        let after = state_with(alloc, before.into_state(alloc)?, event, verdict)?;
+        let after = before.after(alloc, event, verdict)?;
         Ok((verdict, after))
     }
 
@@ -150,7 +162,7 @@ impl Room {
         ensures err { OnErr result (self.new ≡ self.old) }
     {
         let (verdict, after) = self.decided(alloc, event)?;
-        self.states.set_next(after)?;
+        after.keep(alloc, event.event(), &mut self.states)?;
         Ok(verdict)
     }
 
@@ -193,9 +205,10 @@ impl Room {
     }
 
     // What the event of a draft names, and the state before that event.
-    fn links(&self, alloc: Global, draft: &Draft) -> Result<(Links, State), NoMemory>
+    fn links(&self, alloc: Global, draft: &Draft) -> Result<(Links, Resolved<'_>), NoMemory>
         ensures links { IfOk result (λ r. links_seen r.0 ≡ links_of self.now.store.room.stored draft.now) }
-        ensures before { IfOk result (λ r. r.1 ≡ resolved_after self.now.store.room.stored r.0.prev_events.items) }
+        ensures kept { IfOk result (λ r. IsKeptIn (states_after self.now.store.room.stored) r.1) }
+        ensures before { IfOk result (λ r. seen r.1 ≡ resolved_after self.now.store.room.stored r.0.prev_events.items) }
     {
         let graph = self.store.graph();
         let prev_events = prev_events(alloc, graph, self.store.extremities())?;
@@ -207,7 +220,7 @@ impl Room {
             prev_events,
             depth,
         };
-        Ok((links, before.into_state(alloc)?))
+        Ok((links, before))
     }
 }
 
@@ -233,7 +246,8 @@ impl RoomEngine for Room {
         };
         let id = self.store.reserve_waiting(alloc, place)?;
         let (verdict, after) = self.decided(alloc, &self.store.waiting()[place])?;
-        self.states.set_next(after)?;
+        let event = self.store.waiting()[place].event();
+        after.keep(alloc, event, &mut self.states)?;
         self.store.store_waiting(place, verdict);
         // The graph tells that what it stores now is one, which the proof needs of the states that are kept beside it.
         let stored = self.store.graph().events();
@@ -251,13 +265,14 @@ impl RoomEngine for Room {
         check(&draft, keys)?;
         let (links, before) = self.links(alloc, &draft)?;
         let event = made(alloc, draft, links, keys)?;
-        if let Some(rule) = self.verdict(alloc, &event, &before)?.rule() {
+        if let Some(rule) = self.verdict(alloc, &event, before.state())?.rule() {
             return Err(Refusal::NotAllowed(rule));
         }
-        let after = state_with(alloc, before.copy(alloc)?, &event, Verdict::Accepted)?;
+        let state = before.copy(alloc)?;
+        let after = before.after(alloc, &event, Verdict::Accepted)?;
         self.store.reserve(alloc, event.event().id())?;
-        self.states.set_next(after)?;
-        Ok(Prepared::new(alloc, event, before)?)
+        after.keep(alloc, event.event(), &mut self.states)?;
+        Ok(Prepared::new(alloc, event, state)?)
     }
 
     fn commit(&mut self, prepared: Prepared) -> EventId {
@@ -274,11 +289,11 @@ impl RoomEngine for Room {
             return Ok(None);
         };
         let before = self.resolved_before(alloc, stored.event.event())?;
-        Ok(Some(before.into_state(alloc)?))
+        Ok(Some(before.copy(alloc)?))
     }
 
     fn current(&self, alloc: Global) -> Result<State, NoMemory> {
-        self.resolved_now(alloc)?.into_state(alloc)
+        self.resolved_now(alloc)?.copy(alloc)
     }
 
     fn extremities(&self) -> &[EventId] {

@@ -1,6 +1,7 @@
 pub mod Filled
 pub mod TextUpdates
 pub mod States
+pub mod KeptSteps
 pub mod Positions
 pub mod Graphs
 pub mod PlaceMaps

@@ -1,6 +1,9 @@
 pub mod State
 pub mod StateParts
 pub mod Entry
+pub mod Steps
+pub mod StepParts
+pub mod StateRef
 pub mod Rule
 pub mod Verdict
 pub mod Graph

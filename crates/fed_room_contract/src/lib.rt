@@ -3,6 +3,8 @@
 //! - `state`: `State`, the events that hold in a room
 //! - `entry`: `Entry`, one of its entries
 //! - `keyed`: those of one type, by state key
+//! - `step`, `steps`: `Steps`, states that are kept by earlier ones
+//! - `state_ref`: `StateRef`, a state of either kind, to look up in
 //! - `rule`: `Rule`, the number of an authorization rule
 //! - `verdict`: `Verdict`, what a room makes of an event
 //! - `places`: where stored events stand
@@ -37,6 +39,9 @@ mod receipt;
 mod refusal;
 mod rule;
 mod state;
+mod state_ref;
+mod step;
+mod steps;
 mod store;
 mod verdict;
 
@@ -57,5 +62,7 @@ pub use receipt::Receipt;
 pub use refusal::Refusal;
 pub use rule::Rule;
 pub use state::State;
+pub use state_ref::StateRef;
+pub use steps::Steps;
 pub use store::{EventStore, MOST_WAITING};
 pub use verdict::Verdict;

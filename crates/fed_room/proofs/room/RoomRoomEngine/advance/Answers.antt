@@ -2,6 +2,7 @@ use Rattle.std.proofs.Common.{◌≡◌, ℕ, List, [], ◌∷◌, ◌++◌, Opt
 use Rattle.std.proofs.lemmas.Option.{slice_get_read}
 use Rattle.std.specs.Prelude.{option_map, unwrap_or}
 use Rattle.std.specs.List.{slice_get, slice_index_or}
+use Rattle.serde_json.specs.Data.{Data}
 use Rattle.fed_event.specs.Checked.{CheckedEvent}
 use Rattle.fed_room_contract.specs.declared.graph.Stored.{Stored}
 use Rattle.fed_room_contract.specs.Graph.{IsGraph, is_ready}
@@ -14,7 +15,9 @@ use Rattle.fed_room.specs.Decision.{verdict_of}
 use Rattle.fed_room.specs.Room.{RoomValue, room_of, room_rules}
 use Rattle.fed_room.specs.RoomLawful.{kept-push}
 use Rattle.fed_room.specs.States.{state_with, state_before, states_after}
-use Rattle.fed_room.specs.StatesParts.{KeptStates}
+use Rattle.fed_room_contract.specs.State.{StateMap}
+use Rattle.fed_room_contract.specs.Steps.{KeptStates}
+use Rattle.fed_room.specs.StatesParts.{after_seen}
 use Rattle.fed_room.proofs.room.RoomRoomEngine.advance.Goals as goal
 
 pub decided-requires : goal.decided-requires
@@ -45,13 +48,21 @@ invariant_of-self-3 c =
     let stored : c.store_waiting.new.self.room.stored ≡ old.room.stored ++ last ∷ [] =
     ap (λ (s : StoreState). s.room.stored) new ∙ ap (λ (s : StoreState). s.room.stored ++ last ∷ []) reserved in
     let graph : IsGraph c.store_waiting.new.self.room.stored = subst (λ (g : GraphState). IsGraph g.stored) c.graph.ensures c.events-stored.ensures.graph in
-    let pushed : c.push_next.new.self ≡ record { after = kept ++ c.in_ok-verdict.after ∷ []; next = None } =
-    subst (λ (s : KeptStates). IfSome s.next (λ state. c.push_next.new.self ≡ record { after = s.after ++ state ∷ []; next = None })) c.in_ok-set_next.ensures.ok c.push_next.ensures in
-    let after : c.in_ok-verdict.after ≡ state_with (state_before old.room.stored event.event) last =
-    c.in_ok-verdict.ensures.after ∙ ap (λ (s : StoreState). state_with (state_before s.room.stored event.event) last) reserved in
+    let again = c.index-waiting-place-2.result in
+    let waits : c.waiting-2.result.now ≡ old.room.waiting = c.waiting-2.ensures ∙ ap (λ (s : StoreState). s.room.waiting) reserved in
+    let at-again : slice_get old.room.waiting place ≡ Some again = slice_get_read old.room.waiting _ place again refl c.in-Some.ensures.within (c.index-waiting-place-2.is ∙ ap (λ ws. slice_index_or ws place again) waits) in
+    let one : again ≡ event = let both = sym at-again ∙ at in cc in
+    let seen : c.event-event.result.now ≡ event.event = c.event-event.ensures.event ∙ ap (λ (e : CheckedEvent). e.event) one in
+    let next : StateMap = after_seen kept c.event-event.result.now c.in_ok-verdict.after in
+    let pushed : c.push_next.new.self ≡ record { after = kept ++ next ∷ []; next = None } =
+    subst (λ (s : KeptStates). IfSome s.next (λ state. c.push_next.new.self ≡ record { after = s.after ++ state ∷ []; next = None })) c.in_ok-keep.ensures.ok c.push_next.ensures in
+    let after : next ≡ state_with (state_before old.room.stored event.event) last =
+    ap (λ (e : Data). after_seen kept e c.in_ok-verdict.after) seen
+    ∙ ap (λ (xs : List StateMap). after_seen xs event.event c.in_ok-verdict.after) (c.self.invariant.after ∙ ap (λ (s : StoreState). states_after s.room.stored) (sym reserved))
+    ∙ c.in_ok-verdict.ensures.after ∙ ap (λ (s : StoreState). state_with (state_before s.room.stored event.event) last) reserved in
     record {
       graph = graph;
-      after = ap (λ (s : KeptStates). s.after) pushed ∙ kept-push old.room.stored last kept c.in_ok-verdict.after (subst IsGraph stored graph) c.self.invariant.after after ∙ ap states_after (sym stored);
+      after = ap (λ (s : KeptStates). s.after) pushed ∙ kept-push old.room.stored last kept next (subst IsGraph stored graph) c.self.invariant.after after ∙ ap states_after (sym stored);
     }
 
 pub returns-clause-stored : goal.returns-clause-stored

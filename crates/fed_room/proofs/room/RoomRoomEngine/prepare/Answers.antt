@@ -1,5 +1,6 @@
 use Rattle.std.proofs.Common.{rules, ◌≡◌, List, true, Ok, Err, Some, refl, sym, ap, ◌∙◌, subst, inl}
 use Rattle.std.specs.List.{list_all}
+use Rattle.serde_json.specs.Data.{Data}
 use Rattle.fed_room_contract.specs.Graph.{IsGraph, is_stored, is_ready}
 use Rattle.fed_room_contract.specs.Lawful.{NamesStored}
 use Rattle.fed_room_contract.specs.Prepared.{PreparedEvent, signer_of}
@@ -12,8 +13,9 @@ use Rattle.fed_room_contract.specs.declared.graph.Stored.{Stored}
 use Rattle.fed_room_contract.specs.declared.verdict.Verdict.TheVariants.{Accepted}
 use Rattle.fed_room_contract.specs.State.{StateMap}
 use Rattle.fed_room_contract.specs.Store.{StoreState}
-use Rattle.fed_room.specs.States.{resolved_after, state_before, state_with}
-use Rattle.fed_room.specs.StatesParts.{KeptStates}
+use Rattle.fed_room.specs.States.{resolved_after, state_before, state_with, states_after}
+use Rattle.fed_room.specs.StatesParts.{after_seen, IsKeptIn}
+use Rattle.fed_room_contract.specs.Steps.{KeptStates}
 use Rattle.fed_room.proofs.Allowing.{prepared-event, prepared-unmade, refused-by, accepted-by}
 use Rattle.fed_room.proofs.Made.{ready_naming}
 use Rattle.fed_room.proofs.Tips.{prev_events-stored, selection-stored}
@@ -50,7 +52,7 @@ returns-clause-told g c =
     let given = links_seen c.in_ok-links.links in
     let same : given ≡ links_of stored draft = c.in_ok-links.ensures.links in
     let prepared = prepared-event room_rules signer stored draft (links_of stored draft) given refl same event c.in_ok-event.ensures.told in
-    let before : c.in_ok-links.before ≡ state_before stored event.event = c.in_ok-links.ensures.before ∙ ap (resolved_after stored) (sym c.in_ok-event.ensures.prev_events) in
+    let before : c.in_ok-state.state ≡ state_before stored event.event = c.in_ok-state.ensures ∙ c.in_ok-links.ensures.before ∙ ap (resolved_after stored) (sym c.in_ok-event.ensures.prev_events) in
     let made : c.in_ok-new.field-0 ≡ record { event = event; before = state_before stored event.event } = c.in_ok-new.ensures ∙ ap (λ b. record { event = event; before = b }) before in
     inl (ap (λ (p : PreparedEvent). Ok p) made
     ∙ sym (prepared ∙ accepted-by room_rules signer stored event c.in_ok-verdict.field-0 (sym c.in_ok-verdict.ensures) (sym c.rule.ensures ∙ c.in_default.is)))
@@ -59,7 +61,7 @@ pub returns-clause-named : goal.returns-clause-named
 returns-clause-named g c =
     let stored = c.args.self.now.store.room.stored in
     let graph : IsGraph stored = subst (λ (r : RoomValue). IsGraph r.store.room.stored) c.self.view_is c.self.invariant.graph in
-    subst (NamesStored stored) (sym (ap (λ (p : PreparedEvent). p.before) c.in_ok-new.ensures ∙ c.in_ok-links.ensures.before)) (resolved-named stored c.in_ok-links.links.prev_events.items graph)
+    subst (NamesStored stored) (sym (ap (λ (p : PreparedEvent). p.before) c.in_ok-new.ensures ∙ c.in_ok-state.ensures ∙ c.in_ok-links.ensures.before)) (resolved-named stored c.in_ok-links.links.prev_events.items graph)
 
 pub returns-clause-ready : goal.returns-clause-ready
 returns-clause-ready g c =
@@ -80,13 +82,25 @@ returns-clause-prepared g c =
     let stored = c.args.self.now.store.room.stored in
     let now : c.reserve.new.self.room.stored ≡ stored = ap (λ (s : StoreState). s.room.stored) c.in_ok-reserve.ensures.ok ∙ ap (λ (r : RoomValue). r.store.room.stored) c.self.view_is in
     let event = c.in_ok-event.event in
-    let before : c.in_ok-links.before ≡ state_before stored event.event = c.in_ok-links.ensures.before ∙ ap (resolved_after stored) (sym c.in_ok-event.ensures.prev_events) in
-    let after = c.in_ok-after.ensures ∙ ap (λ (b : StateMap). state_with b (record { event = event; verdict = Accepted })) (c.in_ok-copy.ensures ∙ before) in
-    let next : c.set_next.new.self.next ≡ Some (state_with (state_before c.reserve.new.self.room.stored event.event) (record { event = event; verdict = Accepted })) =
-    ap (λ (s : KeptStates). s.next) c.in_ok-set_next.ensures.ok ∙ ap (λ (b : StateMap). Some b) after
+    let before : c.in_ok-state.state ≡ state_before stored event.event = c.in_ok-state.ensures ∙ c.in_ok-links.ensures.before ∙ ap (resolved_after stored) (sym c.in_ok-event.ensures.prev_events) in
+    let last : Stored = record { event = event; verdict = Accepted } in
+    let states = c.self.inside.states.after in
+    let kept : IsKeptIn states c.in_ok-links.before =
+    subst (λ (xs : List StateMap). IsKeptIn xs c.in_ok-links.before) (sym (c.self.invariant.after ∙ ap (λ (r : RoomValue). states_after r.store.room.stored) c.self.view_is)) c.in_ok-links.ensures.kept in
+    let after : after_seen states event.event c.in_ok-after.after ≡ state_with (state_before stored event.event) last =
+    c.in_ok-after.ensures.state states kept ∙ ap (λ (b : StateMap). state_with b last) (sym c.in_ok-state.ensures ∙ before) in
+    let next : c.keep.new.states.next ≡ Some (state_with (state_before c.reserve.new.self.room.stored event.event) last) =
+    ap (λ (s : KeptStates). s.next) c.in_ok-keep.ensures.ok ∙ ap (λ (e : Data). Some (after_seen states e c.in_ok-after.after)) c.event-3.ensures.event ∙ ap (λ (b : StateMap). Some b) after
     ∙ ap (λ (events : List Stored). Some (state_with (state_before events event.event) (record { event = event; verdict = Accepted }))) (sym now) in
     record {
       reserved = search rules;
       ready = ap (λ (events : List Stored). is_ready events c.in_ok-new.field-0.event.event) now ∙ returns-clause-ready g c;
       next = next ∙ ap (λ (p : PreparedEvent). Some (state_with (state_before c.reserve.new.self.room.stored p.event.event) (record { event = p.event; verdict = Accepted }))) (sym c.in_ok-new.ensures);
     }
+
+pub keep-requires : goal.keep-requires
+keep-requires g c =
+    let states = c.self.inside.states.after in
+    let kept : IsKeptIn states c.in_ok-links.before =
+    subst (λ (xs : List StateMap). IsKeptIn xs c.in_ok-links.before) (sym (c.self.invariant.after ∙ ap (λ (r : RoomValue). states_after r.store.room.stored) c.self.view_is)) c.in_ok-links.ensures.kept in
+    c.in_ok-after.ensures.there states kept

@@ -1,0 +1,54 @@
+// The state after an event.
+ghost use Rattle.std.specs.Prelude.{◌≡◌, ◌<◌, Some, OnOk, OnErr, length};
+ghost use Rattle.fed_event.specs.EventId.{event_id_of};
+ghost use Rattle.fed_event.specs.Fields.{kind_of, state_key_of};
+ghost use Rattle.fed_auth.specs.AuthState.{with_id_at};
+ghost use Rattle.fed_room_contract.specs.Steps.{state_at};
+ghost use Rattle.fed_room.specs.StatesParts.{after_seen, IsThereIn};
+
+use fed_event::Pdu;
+use fed_json::NoMemory;
+use fed_room_contract::{State, Steps};
+use std::alloc::Global;
+
+/// The state after an event, beside the states that are kept: the same as the one at a place, that one with the event laid over, or another.
+#[derive(Drop)]
+pub(crate) enum After {
+    Same(usize),
+    Laid(usize),
+    Whole(State),
+}
+
+impl After {
+    /// Makes it the next state that is kept, so that `push_next` takes no memory.
+    ///
+    /// # Errors
+    ///
+    /// `NoMemory`; then the states are as they were.
+    pub(crate) fn keep(self, alloc: Global, event: &Pdu, states: &mut Steps) -> Result<(), NoMemory>
+        requires { IsThereIn states.old.after self }
+        ensures ok { OnOk result (states.new ≡ record { after = states.old.after; next = Some (after_seen states.old.after event.now self) }) }
+        ensures err { OnErr result (states.new ≡ states.old) }
+    {
+        match self {
+            After::Same(place) => states.set_same(place),
+            After::Laid(place) => lay(alloc, event, place, states),
+            After::Whole(state) => states.set_whole(state),
+        }
+    }
+}
+
+// Makes the next state the one at a place with an event laid over, where it has a state key.
+fn lay(alloc: Global, event: &Pdu, place: usize, states: &mut Steps) -> Result<(), NoMemory>
+    requires { place < length states.old.after }
+    ensures ok { OnOk result (states.new ≡ record { after = states.old.after; next = Some (with_id_at (state_at states.old.after place) (kind_of event.now) (state_key_of event.now) (event_id_of event.now)) }) }
+    ensures err { OnErr result (states.new ≡ states.old) }
+{
+    match event.state_key() {
+        Some(state_key) => {
+            let id = event.id().copy(alloc)?;
+            states.set_laid(alloc, place, event.kind(), state_key, id)
+        }
+        None => states.set_same(place),
+    }
+}

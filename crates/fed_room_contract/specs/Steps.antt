@@ -1,0 +1,18 @@
+-- The states of a room, one after another.
+use Rattle.std.specs.Prelude.{ℕ, List, Option, refl}
+use Rattle.std.specs.Coded.{Coded, code_by, coded×, coded_list, coded_option}
+use Rattle.std.specs.FinMap as finite
+use Rattle.std.specs.List.{slice_index_or}
+use Rattle.fed_room_contract.specs.State.{StateMap, state_code}
+
+-- states one after another, and the next one, where it is made already
+pub record KeptStates : Type 0 where
+  pub after : List StateMap
+  pub next : Option StateMap
+
+abbrev pub states_code : Coded KeptStates
+states_code = code_by (List StateMap × Option StateMap) (coded× (coded_list state_code) (coded_option state_code)) (λ s. (s.after, s.next)) (λ p. record { after = p.0; next = p.1 }) (λ _. refl)
+
+-- the state at a place, counted from 0
+abbrev pub state_at : List StateMap → ℕ → StateMap
+state_at states place = slice_index_or states place finite.empty
