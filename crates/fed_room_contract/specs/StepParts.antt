@@ -1,5 +1,6 @@
 -- How states are kept by earlier ones, for the clauses of private functions.
-use Rattle.std.specs.Prelude.{◌≡◌, ◌<◌, ◌≤◌, ◌+◌, ◌++◌, ◌∷◌, [], ℕ, ⊤, List, Bool, true, false, Some, IfSome, length, take, slice_get, option_map, unwrap_or, vec_len, vec_capacity, string_bytes}
+use Rattle.std.specs.Prelude.{◌≡◌, ◌<◌, ◌≤◌, ◌+◌, ◌*◌, ◌%◌, ◌++◌, ◌∷◌, [], ℕ, ⊤, List, Bool, true, false, Some, IfSome, length, take, slice_get, option_map, unwrap_or, vec_len, vec_capacity, string_bytes}
+use Rattle.std.specs.List.{fold}
 use Rattle.fed_room_contract.specs.State.{StateMap, with_entry}
 use Rattle.fed_room_contract.specs.Steps.{KeptStates, state_at}
 use Rattle.fed_room_contract.specs.declared.step.Step.{Step}
@@ -38,15 +39,22 @@ above_of (Whole state) = 0
 abbrev pub above_at : List Step → ℕ → ℕ
 above_at steps place = unwrap_or (option_map above_of (slice_get steps place)) 0
 
+-- a number by which most types and state keys are told apart
+abbrev pub tag_step : ℕ → ℕ → ℕ
+tag_step tag byte = tag % 65536 * 31 + byte
+
+unfoldable pub tag_of : List ℕ → List ℕ → ℕ
+tag_of kind key = fold tag_step (length kind) key
+
 -- a place of a step that is laid or whole
 pub record IsRootOf (steps : List Step) (place : ℕ) : Type 0 where
   pub within : place < length steps
   pub root : is_root_at steps place ≡ true
 
--- what a step behind others names, and that at most 63 entries are laid over a whole state
+-- what a step behind others names, that at most 63 entries are laid over a whole state, and the tag of one that is
 abbrev pub IsLower : List Step → Step → Type 0
 IsLower steps (Same parent) = IsRootOf steps parent
-IsLower steps (Laid laid) = IsRootOf steps laid.parent × ((laid.above ≡ above_at steps laid.parent + 1) × (laid.above ≤ 63))
+IsLower steps (Laid laid) = IsRootOf steps laid.parent × ((laid.above ≡ above_at steps laid.parent + 1) × ((laid.above ≤ 63) × (laid.tag ≡ tag_of (string_bytes laid.kind) (string_bytes laid.state_key))))
 IsLower steps (Whole state) = ⊤
 
 -- each step names earlier ones

@@ -2,10 +2,10 @@
 ghost use Rattle.std.specs.Prelude.{◌≡◌, ◌∷◌, ◌++◌, [], ◌<◌, length, IfOk, IfSome, IsSome, OnOk, OnErr, None, Some, true, option_map};
 ghost use Rattle.fed_room_contract.specs.State.{entry_at, with_entry};
 ghost use Rattle.fed_room_contract.specs.Steps.{state_at};
-ghost use Rattle.fed_room_contract.specs.StepParts.{AreSteps, IsLower, states_of, step_state, is_root_at};
+ghost use Rattle.fed_room_contract.specs.StepParts.{AreSteps, IsLower, states_of, step_state, is_root_at, tag_of as tag_of_key};
 
 use crate::state::State;
-use crate::step::{Laid, MAX_ABOVE, Step};
+use crate::step::{Laid, MAX_ABOVE, Step, tag_of};
 use fed_event::EventId;
 use fed_json::NoMemory;
 use std::alloc::Global;
@@ -49,7 +49,7 @@ impl Steps {
     pub fn get(&self, place: usize, kind: &str, state_key: &str) -> Option<&EventId>
         ensures { option_map (λ id. id.now) result ≡ entry_at (state_at self.now.after place) kind.now state_key.now }
     {
-        find(&self.steps, place, kind, state_key)
+        find(&self.steps, place, tag_of(kind, state_key), kind, state_key)
     }
 
     /// The state at a place, to keep.
@@ -138,18 +138,25 @@ impl Steps {
     }
 }
 
-// The id of the event that holds at a type and state key in the state at a place.
-fn find<'a>(steps: &'a [Step], place: usize, kind: &str, state_key: &str) -> Option<&'a EventId>
-    requires { AreSteps steps.now }
+// The id of the event that holds at a type and state key, whose tag is given, in the state at a place.
+fn find<'a>(
+    steps: &'a [Step],
+    place: usize,
+    tag: usize,
+    kind: &str,
+    state_key: &str,
+) -> Option<&'a EventId>
+    requires steps { AreSteps steps.now }
+    requires tag { tag ≡ tag_of_key kind.now state_key.now }
     ensures { option_map (λ id. id.now) result ≡ entry_at (state_at (states_of steps.now) place) kind.now state_key.now }
 {
     match steps.get(place)? {
-        Step::Same { parent } => find(steps, *parent, kind, state_key),
+        Step::Same { parent } => find(steps, *parent, tag, kind, state_key),
         Step::Laid(laid) => {
-            if laid.is_at(kind, state_key) {
+            if laid.is_at(tag, kind, state_key) {
                 return Some(&laid.id);
             }
-            find(steps, laid.parent, kind, state_key)
+            find(steps, laid.parent, tag, kind, state_key)
         }
         Step::Whole(state) => state.get(kind, state_key),
     }
@@ -211,6 +218,7 @@ fn laid(
     Ok(Step::Laid(Laid {
         parent,
         above: below + 1,
+        tag: tag_of(kind, state_key),
         kind: String::from_str(alloc, kind)?,
         state_key: String::from_str(alloc, state_key)?,
         id,

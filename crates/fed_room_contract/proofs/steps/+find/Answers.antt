@@ -18,7 +18,7 @@ find-requires t c =
     let there = slice_get_read c.args.steps.now _ c.args.place c.in_ok-parent.field-0.now refl c.in_ok-parent.ensures.lookup.3.0 c.in_ok-parent.ensures.lookup.1 ∙ ap (λ (s : Step). Some s) c.in-Same.is in
     let at : c.args.place ≡ t = search rules in
     let less = parent-before c.args.steps.now c.args.place c.in-Same.parent are there in
-    (omega (arith, less, at), are)
+    (omega (arith, less, at), (are, c.requires.1.1.1))
 
 pub find-requires-in-Laid : goal.find-requires-in-Laid
 find-requires-in-Laid t c =
@@ -26,7 +26,7 @@ find-requires-in-Laid t c =
     let there = slice_get_read c.args.steps.now _ c.args.place c.in_ok-parent.field-0.now refl c.in_ok-parent.ensures.lookup.3.0 c.in_ok-parent.ensures.lookup.1 ∙ ap (λ (s : Step). Some s) c.in-Laid.is in
     let at : c.args.place ≡ t = search rules in
     let less = laid-before c.args.steps.now c.args.place c.in-Laid.laid are there in
-    (omega (arith, less, at), are)
+    (omega (arith, less, at), (are, c.requires.1.1.1))
 
 pub returns-in-Same : goal.returns-in-Same
 returns-in-Same t c =
@@ -56,3 +56,9 @@ returns-in-Whole t c =
     let are : AreSteps c.args.steps.now = search rules in
     let there = slice_get_read c.args.steps.now _ c.args.place c.in_ok-parent.field-0.now refl c.in_ok-parent.ensures.lookup.3.0 c.in_ok-parent.ensures.lookup.1 ∙ ap (λ (s : Step). Some s) c.in-Whole.is in
     c.get-in-Whole.ensures ∙ ap (λ (s : StateMap). entry_at s c.args.kind.now c.args.state_key.now) (sym (at-step c.args.steps.now c.args.place (Whole c.in-Whole.state) are there))
+
+pub is_at-requires-clause-own : goal.is_at-requires-clause-own
+is_at-requires-clause-own t c =
+    let are : AreSteps c.args.steps.now = search rules in
+    let there = slice_get_read c.args.steps.now _ c.args.place c.in_ok-parent.field-0.now refl c.in_ok-parent.ensures.lookup.3.0 c.in_ok-parent.ensures.lookup.1 ∙ ap (λ (s : Step). Some s) c.in-Laid.is in
+    (are c.args.place (Laid c.in-Laid.laid) there).1.1.1
