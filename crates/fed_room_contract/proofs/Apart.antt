@@ -15,7 +15,7 @@ differ xs ys h = by (bytes_eq ys xs) refl
     by true t = absurd (true≢false (sym ((bytes_eq-Decides xs ys).1 (sym ((bytes_eq-Decides ys xs).0 t))) ∙ h))
 
 -- an id that is not that of the last one
-still_not : (xs : List Stored) (s : Stored) (id : List ℕ) → is_stored xs id ≡ false → has_id id s ≡ false → is_stored (xs ++ s ∷ []) id ≡ false
+pub still_not : (xs : List Stored) (s : Stored) (id : List ℕ) → is_stored xs id ≡ false → has_id id s ≡ false → is_stored (xs ++ s ∷ []) id ≡ false
 still_not [] s id h t = ap (λ b. b || false) t
 still_not (x ∷ xs) s id h t = by (has_id id x) h (still_not xs s id)
   where

@@ -8,6 +8,7 @@ pub mod PlaceMaps
 pub mod Rooms
 pub mod Apart
 pub mod Extremities
+pub mod LackLists
 pub mod Stores
 pub mod WellFormed
 pub mod LinkLists

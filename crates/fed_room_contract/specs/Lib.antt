@@ -2,6 +2,7 @@ pub mod State
 pub mod StateParts
 pub mod Entry
 pub mod Steps
+pub mod Tags
 pub mod StepParts
 pub mod StateRef
 pub mod Rule
@@ -17,6 +18,7 @@ pub mod Room
 pub mod Lawful
 pub mod Prepared
 pub mod Runs
+pub mod LackParts
 pub mod Store
 pub mod StoreParts
 pub mod Arrival

@@ -1,8 +1,8 @@
 -- How states are kept by earlier ones, for the clauses of private functions.
-use Rattle.std.specs.Prelude.{◌≡◌, ◌<◌, ◌≤◌, ◌+◌, ◌*◌, ◌%◌, ◌++◌, ◌∷◌, [], ℕ, ⊤, List, Bool, true, false, Some, IfSome, length, take, slice_get, option_map, unwrap_or, vec_len, vec_capacity, string_bytes}
-use Rattle.std.specs.List.{fold}
+use Rattle.std.specs.Prelude.{◌≡◌, ◌<◌, ◌≤◌, ◌+◌, ◌++◌, ◌∷◌, [], ℕ, ⊤, List, Bool, true, false, Some, IfSome, length, take, slice_get, option_map, unwrap_or, vec_len, vec_capacity, string_bytes}
 use Rattle.fed_room_contract.specs.State.{StateMap, with_entry}
 use Rattle.fed_room_contract.specs.Steps.{KeptStates, state_at}
+use Rattle.fed_room_contract.specs.Tags.{tag_of_text}
 use Rattle.fed_room_contract.specs.declared.step.Step.{Step}
 use Rattle.fed_room_contract.specs.declared.step.Step.TheVariants.{Same, Laid, Whole}
 use Rattle.fed_room_contract.specs.declared.steps.Steps.TheInside.{Inside}
@@ -40,11 +40,8 @@ abbrev pub above_at : List Step → ℕ → ℕ
 above_at steps place = unwrap_or (option_map above_of (slice_get steps place)) 0
 
 -- a number by which most types and state keys are told apart
-abbrev pub tag_step : ℕ → ℕ → ℕ
-tag_step tag byte = tag % 65536 * 31 + byte
-
-unfoldable pub tag_of : List ℕ → List ℕ → ℕ
-tag_of kind key = fold tag_step (length kind) key
+abbrev pub tag_of : List ℕ → List ℕ → ℕ
+tag_of kind key = tag_of_text (length kind) key
 
 -- a place of a step that is laid or whole
 pub record IsRootOf (steps : List Step) (place : ℕ) : Type 0 where

@@ -3,6 +3,7 @@
 //! - `state`: `State`, the events that hold in a room
 //! - `entry`: `Entry`, one of its entries
 //! - `keyed`: those of one type, by state key
+//! - `tag`: numbers by which texts are told apart
 //! - `step`, `steps`: `Steps`, states that are kept by earlier ones
 //! - `state_ref`: `StateRef`, a state of either kind, to look up in
 //! - `rule`: `Rule`, the number of an authorization rule
@@ -15,6 +16,7 @@
 //! - `receipt`, `refusal`: what becomes of an event, and why none is made of a draft
 //! - `input`: `Input`, what a room is given
 //! - `arrival`: what becomes of an event before there is a verdict on it
+//! - `lacks`: what events that wait lack
 //! - `store`: `EventStore`, the events that a room stores, lets wait and drops
 //! - `engine`: `RoomEngine`, what keeps a room
 //! - `advancing`: storing all waiting events that are ready
@@ -31,6 +33,7 @@ mod entry;
 mod graph;
 mod input;
 mod keyed;
+mod lacks;
 mod laws;
 mod links;
 mod places;
@@ -43,6 +46,7 @@ mod state_ref;
 mod step;
 mod steps;
 mod store;
+mod tag;
 mod verdict;
 
 pub use advancing::{Halted, advance_all};

@@ -3,6 +3,7 @@ ghost use Rattle.std.specs.Prelude.{◌≡◌, ◌&&◌, string_bytes, bytes_eq}
 ghost use Rattle.fed_room_contract.specs.StepParts.{above_of, tag_of};
 
 use crate::state::State;
+use crate::tag::tag_of_text;
 use fed_event::EventId;
 
 /// How many entries at most are laid over a whole state, one over the other.
@@ -57,9 +58,5 @@ impl Laid {
 pub(crate) fn tag_of(kind: &str, state_key: &str) -> usize
     ensures { result ≡ tag_of kind.now state_key.now }
 {
-    let mut tag = kind.len();
-    for byte in state_key.as_bytes() {
-        tag = tag % 65_536 * 31 + usize::from(*byte);
-    }
-    tag
+    tag_of_text(kind.len(), state_key)
 }

@@ -1,13 +1,15 @@
 // The events of a room, as every room keeps them.
-ghost use Rattle.std.specs.Prelude.{◌≡◌, ◌<◌, ◌≤◌, ◌++◌, ◌∷◌, [], List, ℕ, not, filter, vec_len, vec_capacity, position, if◌then◌else◌};
+ghost use Rattle.std.specs.Prelude.{◌≡◌, ◌<◌, ◌≤◌, ◌++◌, ◌∷◌, [], List, ℕ, not, filter, map, length, Option, vec_len, vec_capacity, position, if◌then◌else◌};
 ghost use Rattle.fed_room_contract.specs.Graph.{is_ready};
 ghost use Rattle.std.specs.List.{list_any};
 ghost use Rattle.std.specs.Str.{bytes_eq};
+ghost use Rattle.fed_event.specs.Checked.{CheckedEvent};
 ghost use Rattle.fed_event.specs.Fields.{prev_events_of};
-ghost use Rattle.fed_room_contract.specs.Room.{without, is_accepted, is_waiting, names};
+ghost use Rattle.fed_room_contract.specs.Room.{without, is_accepted, is_of_id, is_waiting, names};
 
 use crate::arrival::Arrival;
 use crate::graph::{Graph, Stored};
+use crate::lacks::{first_none, lack_of, renew, tag_of_id};
 use crate::receipt::Receipt;
 use crate::verdict::Verdict;
 use fed_event::{Checked, EventId, Pdu};
@@ -26,6 +28,8 @@ pub const MOST_WAITING: usize = 1000;
 pub struct EventStore {
     graph: Graph,
     waiting: Vec<Checked>,
+    // For each event that waits the tag of the first that it names and that is not stored, or `None` where it is ready.
+    lacks: Vec<Option<usize>>,
     dropped: u64,
     extremities: Vec<EventId>,
 }
@@ -44,7 +48,7 @@ impl Model for EventStore {
 }
 
 impl EventStore {
-    ghost use Rattle.std.specs.Prelude.{true, false, None, Some, IfOk, IfErr, IfSome, IsOk, OnOk, OnErr, MatchOption, length, slice_get, option_map};
+    ghost use Rattle.std.specs.Prelude.{true, false, None, Some, IfOk, IfErr, IfSome, IsOk, OnOk, OnErr, MatchOption, slice_get, option_map};
     ghost use Rattle.fed_room_contract.specs.declared.receipt.Receipt.TheVariants as receipt;
     ghost use Rattle.fed_room_contract.specs.Graph.{is_stored, stored_at};
     ghost use Rattle.fed_room_contract.specs.Room.{Rules, event_id, is_known, receipt_of, first_ready, empty_room, extremities_of};
@@ -58,6 +62,7 @@ impl EventStore {
         EventStore {
             graph: Graph::new(alloc),
             waiting: Vec::new(alloc),
+            lacks: Vec::new(alloc),
             dropped: 0,
             extremities: Vec::new(alloc),
         }
@@ -122,7 +127,8 @@ impl EventStore {
         if self.is_known(event.event().id().as_str()) {
             return Ok(Arrival::Told(Receipt::Known));
         }
-        if self.graph.is_ready(event.event()) {
+        let lack = lack_of(&self.graph, event.event());
+        if lack.is_none() {
             return match self.reserve(alloc, event.event().id()) {
                 Ok(()) => Ok(Arrival::Ready(event)),
                 Err(error) => Err((event, error)),
@@ -135,7 +141,11 @@ impl EventStore {
         if let Err(error) = self.waiting.reserve(1) {
             return Err((event, error));
         }
+        if let Err(error) = self.lacks.reserve(1) {
+            return Err((event, error));
+        }
         self.waiting.push(event).unwrap();
+        self.lacks.push(lack).unwrap();
         Ok(Arrival::Told(Receipt::Waiting))
     }
 
@@ -159,9 +169,19 @@ impl EventStore {
         requires ready { is_ready self.old.room.stored event.event ≡ true }
         ensures { self.new ≡ after_store self.old event verdict }
     {
-        forget(&mut self.waiting, event.event().id().as_str());
+        forget(
+            &mut self.waiting,
+            &mut self.lacks,
+            event.event().id().as_str(),
+        );
         leave_followed(&mut self.extremities, event.event(), verdict);
         let id = self.graph.push_reserved(event, verdict);
+        renew(
+            &mut self.lacks,
+            &self.graph,
+            &self.waiting,
+            tag_of_id(id.as_str()),
+        );
         lead(&mut self.extremities, id, verdict);
     }
 
@@ -169,7 +189,7 @@ impl EventStore {
     pub fn first_ready(&self) -> Option<usize>
         ensures { MatchOption result (first_ready self.now.room ≡ None) (IsFirstReady self.now.room) }
     {
-        first_ready(&self.graph, &self.waiting)
+        first_none(&self.lacks)
     }
 
     /// Makes room for the event that waits at this place, counted from 0, and gives its id.
@@ -196,6 +216,7 @@ impl EventStore {
         ensures { IfSome (slice_get self.old.room.waiting place) (λ event. self.new ≡ after_store self.old event verdict) }
     {
         let event = self.waiting.remove(place);
+        self.lacks.remove(place);
         self.store(event, verdict);
     }
 }
@@ -209,20 +230,25 @@ fn is_waiting(waiting: &[Checked], id: &str) -> bool
         .any(|event| event.event().id().as_str() == id)
 }
 
-// The place of the first event that is ready.
-fn first_ready(graph: &Graph, waiting: &[Checked]) -> Option<usize>
-    ensures { result ≡ position (λ event. is_ready graph.now.stored event.event) waiting.now }
+// The place of the first event of this id that waits.
+fn place_of(waiting: &[Checked], id: &str) -> Option<usize>
+    ensures { result ≡ position (is_of_id id.now) waiting.now }
 {
     waiting
         .iter()
-        .position(|event| graph.is_ready(event.event()))
+        .position(|event| event.event().id().as_str() == id)
 }
 
-// The events of this id wait no longer.
-fn forget(waiting: &mut Vec<Checked>, id: &str)
-    ensures { waiting.new.items ≡ without id.now waiting.old.items }
+// The events of this id wait no longer, and what they lack goes with them.
+fn forget(waiting: &mut Vec<Checked>, lacks: &mut Vec<Option<usize>>, id: &str)
+    requires { length lacks.old.items ≡ length waiting.old.items }
+    ensures waiting { waiting.new.items ≡ without id.now waiting.old.items }
+    ensures lacks { (lack : CheckedEvent → Option ℕ) → lacks.old.items ≡ map lack waiting.old.items → lacks.new.items ≡ map lack waiting.new.items }
 {
-    waiting.retain(|event| event.event().id().as_str() != id);
+    while let Some(place) = place_of(waiting, id) {
+        drop(waiting.remove(place));
+        lacks.remove(place);
+    }
 }
 
 // Where an event is accepted, those that it names as prev events are no longer extremities.

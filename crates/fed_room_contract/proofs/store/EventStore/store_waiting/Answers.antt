@@ -1,11 +1,13 @@
-use Rattle.std.proofs.Common.{◌≡◌, ◌<◌, ◌++◌, ◌∷◌, [], List, Option, None, Some, IfSome, find, length, option_map, refl, sym, ap, ◌∙◌, subst}
+use Rattle.std.proofs.Common.{◌≡◌, ◌<◌, ◌++◌, ◌∷◌, [], List, Option, None, Some, IfSome, find, length, ℕ, map, option_map, refl, sym, ap, ◌∙◌, subst}
 use Rattle.std.proofs.lemmas.Option.{slice_get_read}
-use Rattle.std.specs.List.{slice_get}
+use Rattle.std.specs.List.{remove, slice_get}
 use Rattle.fed_event.specs.Checked.{CheckedEvent}
 use Rattle.fed_room_contract.specs.Graph.{is_ready}
 use Rattle.fed_room_contract.specs.Room.{event_id, none_stored, without, first_ready}
+use Rattle.fed_room_contract.specs.LackParts.{lack_of}
 use Rattle.fed_room_contract.specs.Store.{StoreState, after_store}
 use Rattle.fed_room_contract.proofs.Apart.{found_passes}
+use Rattle.fed_room_contract.proofs.LackLists.{map-remove}
 use Rattle.fed_room_contract.proofs.Stores.{apart-without, without-taken}
 use Rattle.fed_room_contract.proofs.store.EventStore.store_waiting.Goals as goal
 
@@ -15,6 +17,8 @@ invariant_of-self c =
     record {
       graph = c.self.invariant.graph;
       apart = ap (none_stored inside.graph.stored) c.remove-event.ensures.items ∙ apart-without inside.graph.stored inside.waiting.items c.args.place c.self.invariant.apart;
+      lacks = c.remove.ensures.items ∙ ap (λ (ls : List (Option ℕ)). remove ls c.args.place) c.self.invariant.lacks
+          ∙ sym (map-remove (lack_of inside.graph.stored) inside.waiting.items c.args.place) ∙ ap (map (lack_of inside.graph.stored)) (sym c.remove-event.ensures.items);
       extremities = c.self.invariant.extremities;
       spare = c.self.invariant.spare;
     }
