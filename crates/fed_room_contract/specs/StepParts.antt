@@ -48,10 +48,10 @@ pub record IsRootOf (steps : List Step) (place : ℕ) : Type 0 where
   pub within : place < length steps
   pub root : is_root_at steps place ≡ true
 
--- what a step behind others names, that at most 63 entries are laid over a whole state, and the tag of one that is
+-- what a step behind others names, that at most 31 entries are laid over a whole state, and the tag of one that is
 abbrev pub IsLower : List Step → Step → Type 0
 IsLower steps (Same parent) = IsRootOf steps parent
-IsLower steps (Laid laid) = IsRootOf steps laid.parent × ((laid.above ≡ above_at steps laid.parent + 1) × ((laid.above ≤ 63) × (laid.tag ≡ tag_of (string_bytes laid.kind) (string_bytes laid.state_key))))
+IsLower steps (Laid laid) = IsRootOf steps laid.parent × ((laid.above ≡ above_at steps laid.parent + 1) × ((laid.above ≤ 31) × (laid.tag ≡ tag_of (string_bytes laid.kind) (string_bytes laid.state_key))))
 IsLower steps (Whole state) = ⊤
 
 -- each step names earlier ones

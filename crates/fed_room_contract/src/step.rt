@@ -7,7 +7,7 @@ use crate::tag::tag_of_text;
 use fed_event::EventId;
 
 /// How many entries at most are laid over a whole state, one over the other.
-pub(crate) const MAX_ABOVE: usize = 63;
+pub(crate) const MAX_ABOVE: usize = 31;
 
 /// How a state is kept.
 #[derive(Drop)]

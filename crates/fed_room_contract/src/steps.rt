@@ -12,7 +12,7 @@ use std::alloc::Global;
 use std::marker::Model;
 
 /// States one after another, and the next one, where it is made already. Each is kept as the same as an earlier one, as an earlier one with
-/// one entry laid over, or whole. A look-up passes at most 63 others before it comes to a whole one.
+/// one entry laid over, or whole. A look-up passes at most 32 others before it comes to a whole one.
 ///
 /// Contracts see it as these states.
 #[derive(Drop)]
@@ -150,16 +150,20 @@ fn find<'a>(
     requires tag { tag ≡ tag_of_key kind.now state_key.now }
     ensures { option_map (λ id. id.now) result ≡ entry_at (state_at (states_of steps.now) place) kind.now state_key.now }
 {
-    match steps.get(place)? {
-        Step::Same { parent } => find(steps, *parent, tag, kind, state_key),
-        Step::Laid(laid) => {
-            if laid.is_at(tag, kind, state_key) {
-                return Some(&laid.id);
+    let mut place = place;
+    while let Some(step) = steps.get(place) {
+        match step {
+            Step::Same { parent } => place = *parent,
+            Step::Laid(laid) => {
+                if laid.is_at(tag, kind, state_key) {
+                    return Some(&laid.id);
+                }
+                place = laid.parent;
             }
-            find(steps, laid.parent, tag, kind, state_key)
+            Step::Whole(state) => return state.get(kind, state_key),
         }
-        Step::Whole(state) => state.get(kind, state_key),
     }
+    None
 }
 
 // The state at a place, to keep.
