@@ -1,7 +1,7 @@
 #!/bin/sh
 # Measures what an event costs in a room, by how many members and how many events it has: the built program crates/fed_bench/out/fed_bench
 # (after `rt run < stdin` there) makes rooms of 2 and of 1,000 members and receives 1,000, 10,000 and 50,000 messages one by one, in one line
-# and with a fork every 10 events.
+# and with a fork every 10 events; and then 100 and 1,000 messages that all follow one event, so that each is a forward extremity.
 #
 #     bench/rooms.sh [RUNS]
 #
@@ -48,4 +48,7 @@ for fork in (0, 10):
         (time, memory), (longer, larger) = cells
         figures = f"{time:8.2f} us {memory:7.0f} B {longer:10.2f} us {larger:7.0f} B"
         print(f"{fork:<5} {messages:<9} {figures} {ratio(longer, time)} {ratio(larger, memory)}", flush=True)
+for extremities in (100, 1_000):
+    times = [min(told(members, extremities, 1)[0] for _ in range(runs)) / extremities for members in (2, 1_000)]
+    print(f"{extremities} forward extremities: {times[0]:.2f} us an event with 2 members, {times[1]:.2f} us with 1,000", flush=True)
 PY

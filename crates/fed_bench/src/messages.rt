@@ -36,8 +36,9 @@ pub(crate) fn beginning(alloc: Global, members: u64, keys: StandIn) -> Result<Ve
     }
 }
 
-/// So many messages of the first user behind these events. Of each `fork` one after another, where that is not 0, the last but one follows the
-/// event before the one before it, and the last follows both.
+/// So many messages of the first user behind these events. Of each `fork` one after another, where that is 3 or more, the last but one follows
+/// the event before the one before it, and the last follows both. Where `fork` is 1, each follows the last of these events, so that all of them
+/// are forward extremities.
 pub(crate) fn messages(
     alloc: Global,
     beginning: &[Checked],
@@ -61,6 +62,9 @@ pub(crate) fn messages(
 
 // How far before a message, whose number counts from 1, its prev events are; 0 where there is none.
 fn places_behind(number: u64, fork: u64) -> [usize; 2] {
+    if fork == 1 {
+        return [usize::MAX, 0];
+    }
     if fork < 3 || number < fork {
         return [1, 0];
     }

@@ -7,7 +7,8 @@ use fed_room_contract::{Receipt, RoomEngine};
 use std::alloc::Global;
 use std::time::Instant;
 
-/// What a room is of and receives: so many members, then so many messages, with a fork at each so many of them where that is not 0.
+/// What a room is of and receives: so many members, then so many messages, with a fork at each so many of them where that is 3 or more, and all
+/// beside one another where it is 1.
 #[derive(Clone, Copy)]
 pub(crate) struct Receiving {
     pub(crate) members: u64,

@@ -26,3 +26,4 @@ pub mod Orderings
 pub mod MaskWords
 pub mod EqualStates
 pub mod Turns
+pub mod ReadySets

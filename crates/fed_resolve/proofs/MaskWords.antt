@@ -1,18 +1,16 @@
 -- Words of marks: their bits, and what a walk makes of them.
-use Rattle.std.proofs.Common.{◌≡◌, ◌<◌, ◌≤◌, ◌+◌, ◌-◌, ◌^◌, ℕ, zero, suc, List, [], ◌∷◌, Bool, true, false, true≢false, not, ◌||◌, ◌&&◌, eqb, max, nat_lt, Option, None, Some, All, Contains, length, map, set, take, get_or, refl, sym, ap, subst, ◌∙◌, ◌⊎◌, inl, inr, arith}
+use Rattle.std.proofs.Common.{◌≡◌, ◌<◌, ◌≤◌, ◌+◌, ◌-◌, ◌^◌, ℕ, suc, List, [], ◌∷◌, Bool, true, false, true≢false, not, ◌||◌, ◌&&◌, eqb, max, nat_lt, None, Some, Contains, length, set, take, get_or, refl, sym, ap, subst, ◌∙◌, ◌⊎◌, inl, inr, arith}
 use Rattle.std.specs.List.{list_any, list_all, slice_get, slice_index_or}
 use Rattle.std.specs.Int.{bit_at}
 use Rattle.std.specs.Int.Bits.{bit_or}
-use Rattle.std.proofs.lemmas.Bool.{cases_eq, cases_lt, eq-eqb, ne_eqb, eqb-true, lt-ltb, le-ltb, or_left, or_right, true_from_ne_false, false_from_ne_true, not-true, not-false, not_from_true, not_from_false}
+use Rattle.std.proofs.lemmas.Bool.{cases_eq, cases_lt, eq-eqb, ne_eqb, eqb-true, lt-ltb, le-ltb, or_left, true_from_ne_false, false_from_ne_true, not-true, not_from_false}
 use Rattle.std.proofs.lemmas.List.{get_or-map, get_or-set_same, get_or-set_other, get_or_default, length-map, length-set}
 use Rattle.std.proofs.lemmas.List.Folds.{list_any_at, list_any_more}
-use Rattle.std.proofs.lemmas.Nat.{pow_pos}
 use Rattle.std.proofs.lemmas.Nat.Bits.{bit_at-zero, bit_at-lt, bit_at_or, bit_at-pow_same, bit_at-pow_other, bit_at_ones, bit_at_ones_above, same_from_bits}
 use Rattle.std.proofs.lemmas.Option.{slice_get_cases, slice_get_past}
 use Rattle.fed_event.specs.Tests.{holds}
 use Rattle.fed_room_contract.specs.declared.graph.Stored.{Stored}
 use Rattle.fed_room_contract.specs.Graph.{IsGraph}
-use Rattle.fed_resolve.specs.Chain.{is_in_chains}
 use Rattle.fed_resolve.specs.ChainParts.{AreClosedFrom, is_marked, is_auth}
 use Rattle.fed_resolve.specs.Marks.{AreMarks}
 use Rattle.fed_resolve.specs.Order.{is_among}

@@ -52,7 +52,7 @@ everywhere : {X : Type 0} (P : X → Type 0) → ((x : X) → P x) → (xs : Lis
 everywhere P f [] = tt
 everywhere P f (x ∷ xs) = (f x, everywhere P f xs)
 
-eqb-turned : (p q : ℕ) → eqb p q ≡ eqb q p
+pub eqb-turned : (p q : ℕ) → eqb p q ≡ eqb q p
 eqb-turned p q = same_by (eqb p q) (eqb q p) (λ h. eq-eqb q p (sym (eqb-true p q h))) (λ h. eq-eqb p q (sym (eqb-true q p h)))
 
 -- those that are not listed, once one more is
@@ -247,7 +247,7 @@ marks-more count listed grown marks place below more are = record {
     turned false true = refl
     turned false false = refl
 
-all-more : (marks : List Bool) (place : ℕ) → place < length marks → (ps : List ℕ) → list_all (is_marked marks) ps ≡ true → list_all (is_marked (set marks place true)) ps ≡ true
+pub all-more : (marks : List Bool) (place : ℕ) → place < length marks → (ps : List ℕ) → list_all (is_marked marks) ps ≡ true → list_all (is_marked (set marks place true)) ps ≡ true
 all-more marks place below [] h = refl
 all-more marks place below (p ∷ ps) h =
     let parts = and_parts (is_marked marks p) (list_all (is_marked marks) ps) h in

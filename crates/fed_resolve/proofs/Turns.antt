@@ -1,6 +1,6 @@
 -- What some states of many add to the full auth chains that are found, and how the events of a set are listed turn by turn.
-use Rattle.std.proofs.Common.{◌≡◌, ◌<◌, ◌≤◌, ◌+◌, ◌-◌, ◌^◌, ◌++◌, ◌∷◌, [], ℕ, List, Bool, not, ◌||◌, ◌&&◌, eqb, All, Option, None, Some, length, get_or, filter, refl, sym, ap, ◌∙◌, arith}
-use Rattle.std.specs.List.{list_any, list_all, slice_get}
+use Rattle.std.proofs.Common.{◌≡◌, ◌<◌, ◌≤◌, ◌-◌, ◌^◌, ◌++◌, ◌∷◌, [], ℕ, List, Bool, not, ◌||◌, ◌&&◌, eqb, All, Option, None, Some, length, get_or, filter, refl, sym, ap, ◌∙◌, arith}
+use Rattle.std.specs.List.{slice_get}
 use Rattle.std.specs.FinMap as finite
 use Rattle.std.proofs.Math.Bool.{or_assoc, and_assoc}
 use Rattle.std.proofs.lemmas.List.Folds.{list_any-append, list_all-append}

@@ -5,6 +5,7 @@ pub mod Conflict
 pub mod ConflictParts
 pub mod Order
 pub mod OrderParts
+pub mod ReadyParts
 pub mod MaskParts
 pub mod PowerOrder
 pub mod Mainline

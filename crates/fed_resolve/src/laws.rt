@@ -1,4 +1,4 @@
-// What holds of all resolved states.
+// What holds of all resolved states; and the plain program of them.
 ghost use Rattle.std.specs.Prelude.{◌≡◌, ◌<◌, ◌⊎◌, ℕ, List, [], ◌∷◌, ◌++◌, Option, Some, All, IfSome, length};
 ghost use Rattle.std.specs.FinMap as finite;
 ghost use Rattle.fed_room_contract.specs.declared.graph.Stored.{Stored};
@@ -10,6 +10,10 @@ ghost use Rattle.fed_resolve.specs.Resolution.{resolved_of};
 ghost use Rattle.fed_resolve.specs.Conflict.{unconflicted};
 ghost use Rattle.fed_resolve.specs.Laws.{AllNameStored, SomeStateHas, IsOfConflict, AreSameStates, IsMainline, IsPosition, IsPowerOrder, IsMainlineOrder};
 ghost use Rattle.fed_room_contract.specs.State.{StateKey, StateMap};
+
+mod plain;
+
+pub use plain::resolve_plainly;
 
 /// No states resolve to the state in which nothing holds.
 pub fn no_states_are_empty()

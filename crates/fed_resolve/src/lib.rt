@@ -5,13 +5,14 @@
 //! - `conflict`: what states agree on, and their full auth chains
 //! - `difference`: what states disagree on: the full conflicted set
 //! - `equality`: whether states are equal
-//! - `laws`: what holds of auth chains and of all resolved states
+//! - `laws`: what holds of auth chains and of all resolved states, and `resolve_plainly`, the plain program of these
 //! - `levels`: what the auth events of an event say of power levels
 //! - `mainline`: mainline ordering
 //! - `masks`: auth chains of several groups of events by one walk
 //! - `order`: events listed one after another
 //! - `places`: sets of places as marks, and as lists
 //! - `power`: power events, and the power events of the full conflicted set
+//! - `ready`: the same by the set of those that may be listed
 //! - `resolution`: the state that several states resolve to
 //! - `topological`: reverse topological power ordering
 #![tactic(auto)]
@@ -28,6 +29,7 @@ mod masks;
 mod order;
 mod places;
 mod power;
+mod ready;
 mod resolution;
 mod topological;
 
@@ -38,7 +40,7 @@ pub use difference::full_conflicted;
 pub use laws::{
     agreed_keys_stay, chain_test_is_exact, entries_come_from_the_states,
     later_events_change_nothing, lists_are_orders, mainlines_are_exact, no_states_are_empty,
-    one_state_stays, resolved_states_name_stored_events, states_in_any_order,
+    one_state_stays, resolve_plainly, resolved_states_name_stored_events, states_in_any_order,
 };
 pub use mainline::mainline_order;
 pub use places::members;

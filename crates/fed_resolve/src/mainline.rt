@@ -6,7 +6,7 @@ ghost use Rattle.fed_resolve.specs.OrderParts.{candidate_place};
 ghost use Rattle.fed_resolve.specs.RankParts.{AreIndices, IsMainlineRank, IsMainlineCandidate};
 
 use crate::levels::levels_auth;
-use crate::order::{Candidate, Rank, in_order};
+use crate::order::{Candidate, Listing, Rank, in_order};
 use fed_json::NoMemory;
 use fed_room_contract::Graph;
 use std::alloc::Global;
@@ -19,7 +19,7 @@ type MainlineRank<'a> = Rank<'a, Option<Reverse<usize>>>;
 /// first, of which an infinite one is the greatest, then the earlier time, then the smaller id. The mainline of the event is it, the power
 /// levels event among its auth events, and so on; without one the mainline is empty. The position of an event is the least index in the
 /// mainline that is reached from it through power levels events. It is found by one walk for each event of the set, to the first event of
-/// the mainline that it meets; beside this it takes time in proportion to the square of the set.
+/// the mainline that it meets; beside this it takes time in proportion to the set and its logarithm.
 ///
 /// # Errors
 ///
@@ -35,10 +35,26 @@ pub fn mainline_order(
     ensures places { IfOk result (λ places. places.items ≡ mainline_order_of graph.now.stored levels set.now) }
     ensures within { IfOk result (λ places. All (λ place. place < length graph.now.stored) places.items) }
 {
+    mainline_order_by(alloc, Listing::Ready, graph, levels, set)
+}
+
+// The same, with the events that come next found in one of two ways.
+pub(crate) fn mainline_order_by(
+    alloc: Global,
+    listing: Listing,
+    graph: &Graph,
+    levels: Option<usize>,
+    set: &[usize],
+) -> Result<Vec<usize>, NoMemory>
+    requires levels { IfSome levels (λ place. place < length graph.now.stored) }
+    requires set { All (λ place. place < length graph.now.stored) set.now }
+    ensures places { IfOk result (λ places. places.items ≡ mainline_order_of graph.now.stored levels set.now) }
+    ensures within { IfOk result (λ places. All (λ place. place < length graph.now.stored) places.items) }
+{
     let line = mainline(alloc, graph, levels)?;
     let indices = indices(alloc, graph.events().len(), &line)?;
     let candidates = candidates(alloc, graph, &indices, set)?;
-    in_order(alloc, graph.len(), &candidates)
+    in_order(alloc, listing, graph.len(), &candidates)
 }
 
 // The mainline of a power levels event.

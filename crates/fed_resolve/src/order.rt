@@ -1,9 +1,10 @@
 // Events listed one after another: each time the first of those that may be listed.
-ghost use Rattle.std.specs.Prelude.{◌≡◌, ◌<◌, ◌==◌, [], All, IfOk, length, option_map, vec_len};
+ghost use Rattle.std.specs.Prelude.{◌≡◌, ◌<◌, ◌==◌, [], false, All, IfOk, IfSome, length, option_map, slice_get, vec_len};
 ghost use Rattle.std.specs.List.{list_all};
 ghost use Rattle.fed_resolve.specs.ChainParts.{is_marked};
 ghost use Rattle.fed_resolve.specs.OrderParts.{IsWithin, IsListedFront, AreListedFronts, earlier_candidate, next_place, candidates_from};
 
+use crate::ready::in_ready_order;
 use fed_event::EventId;
 use fed_json::NoMemory;
 use std::alloc::Global;
@@ -26,11 +27,12 @@ pub(crate) struct Candidate<R> {
 
 impl<R> Candidate<R> {
     // How many at the front of what it comes after are listed, where so many are known to be.
-    fn listed_front(&self, is_listed: &[bool], known: usize) -> usize
+    pub(crate) fn listed_front(&self, is_listed: &[bool], known: usize) -> usize
         requires within { All (λ place. place < length is_listed.now) self.now.after.items }
         requires known { IsListedFront is_listed.now self.now.after.items known }
         ensures front { IsListedFront is_listed.now self.now.after.items result }
         ensures whole { (result == vec_len self.now.after) ≡ list_all (is_marked is_listed.now) self.now.after.items }
+        ensures next { IfSome (slice_get self.now.after.items result) (λ place. is_marked is_listed.now place ≡ false) }
     {
         for index in known..self.after.len() {
             if !is_listed[self.after[index]] {
@@ -41,9 +43,31 @@ impl<R> Candidate<R> {
     }
 }
 
-// The places of some events, which are below a count, in order: of those that are not listed, each time the first that may be listed. It takes
-// time in proportion to the square of how many they are.
-pub(crate) fn in_order<R: Ord>(
+// How those that come next are found: each time among all that are left, or by the set of those that may be listed.
+#[derive(Clone, Copy)]
+pub(crate) enum Listing {
+    Plain,
+    Ready,
+}
+
+// The places of some events, which are below a count, in order: of those that are not listed, each time the first that may be listed.
+pub(crate) fn in_order<R: Ord + Copy>(
+    alloc: Global,
+    listing: Listing,
+    count: usize,
+    candidates: &[Candidate<R>],
+) -> Result<Vec<usize>, NoMemory>
+    requires { All (IsWithin count) candidates.now }
+    ensures { IfOk result (λ places. places.items ≡ candidates_from R.cmp candidates.now (length candidates.now) []) }
+{
+    match listing {
+        Listing::Plain => in_plain_order(alloc, count, candidates),
+        Listing::Ready => in_ready_order(alloc, count, candidates),
+    }
+}
+
+// The same by looking at all that are left, which takes time in proportion to the square of how many they are.
+fn in_plain_order<R: Ord>(
     alloc: Global,
     count: usize,
     candidates: &[Candidate<R>],

@@ -13,10 +13,11 @@ use crate::checks::checked;
 use crate::conflict::unconflicted;
 use crate::difference::full_conflicted_beside;
 use crate::equality::are_all;
-use crate::mainline::mainline_order;
+use crate::mainline::mainline_order_by;
+use crate::order::Listing;
 use crate::places::members;
 use crate::power::{other_set, power_set};
-use crate::topological::power_order;
+use crate::topological::power_order_by;
 use fed_json::NoMemory;
 use fed_room_contract::{Graph, State};
 use std::alloc::Global;
@@ -27,12 +28,25 @@ use std::alloc::Global;
 /// itself. In which order the states are given makes no difference.
 ///
 /// The graph has to hold what the states name: an event that it lacks has no auth chain and counts as missing. The time grows with the
-/// graph and with the states, and with the square of the full conflicted set; where all states are equal, with the states alone.
+/// graph, with the states, and with the full conflicted set and what of it is in the auth chains of its power events; where all states are
+/// equal, with the states alone.
 ///
 /// # Errors
 ///
 /// `NoMemory`.
 pub fn resolve(alloc: Global, graph: &Graph, states: &[State]) -> Result<State, NoMemory>
+    ensures { IfOk result (λ state. state ≡ resolved_of graph.now.stored states.now) }
+{
+    resolve_by(alloc, Listing::Ready, graph, states)
+}
+
+// The same, with the events that come next in the two orders found in one of two ways.
+pub(crate) fn resolve_by(
+    alloc: Global,
+    listing: Listing,
+    graph: &Graph,
+    states: &[State],
+) -> Result<State, NoMemory>
     ensures { IfOk result (λ state. state ≡ resolved_of graph.now.stored states.now) }
 {
     let Some((first, others)) = states.split_first() else {
@@ -44,13 +58,14 @@ pub fn resolve(alloc: Global, graph: &Graph, states: &[State]) -> Result<State, 
     }
     let agreed = unconflicted(alloc, states)?;
     let state = agreed.copy(alloc)?;
-    let state = check_conflicted(alloc, graph, states, state)?;
+    let state = check_conflicted(alloc, listing, graph, states, state)?;
     with_entries(alloc, state, &agreed)
 }
 
 // Checks the full conflicted set, from the unconflicted state on: its power events first, then the others.
 fn check_conflicted(
     alloc: Global,
+    listing: Listing,
     graph: &Graph,
     states: &[State],
     agreed: State,
@@ -61,13 +76,14 @@ fn check_conflicted(
     let set = full_conflicted_beside(alloc, graph, states, &agreed)?;
     let power = power_set(alloc, graph, &set)?;
     let others = other_set(set, &power);
-    let state = check_by_power(alloc, graph, &power, agreed)?;
-    check_by_mainline(alloc, graph, &others, state)
+    let state = check_by_power(alloc, listing, graph, &power, agreed)?;
+    check_by_mainline(alloc, listing, graph, &others, state)
 }
 
 // Checks the events at the places that are marked, in the reverse topological power order.
 fn check_by_power(
     alloc: Global,
+    listing: Listing,
     graph: &Graph,
     marks: &[bool],
     state: State,
@@ -77,13 +93,14 @@ fn check_by_power(
         → after ≡ checked graph.now.stored state (power_order_of graph.now.stored (members_of graph.now.stored test))) }
 {
     let places = members(alloc, marks)?;
-    let places = power_order(alloc, graph, &places)?;
+    let places = power_order_by(alloc, listing, graph, &places)?;
     checked(alloc, graph, &places, state)
 }
 
 // Checks the events at the places that are marked, in the mainline order of the power levels of the state.
 fn check_by_mainline(
     alloc: Global,
+    listing: Listing,
     graph: &Graph,
     marks: &[bool],
     state: State,
@@ -95,7 +112,7 @@ fn check_by_mainline(
 {
     let places = members(alloc, marks)?;
     let levels = levels_place(graph, &state);
-    let places = mainline_order(alloc, graph, levels, &places)?;
+    let places = mainline_order_by(alloc, listing, graph, levels, &places)?;
     checked(alloc, graph, &places, state)
 }
 

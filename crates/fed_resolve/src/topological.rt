@@ -7,7 +7,7 @@ ghost use Rattle.fed_resolve.specs.RankParts.{IsPowerRank, IsPowerCandidate};
 
 use crate::levels::sender_level;
 use crate::masks::{GROUPS, carry_down, mask_auths};
-use crate::order::{Candidate, Rank, in_order};
+use crate::order::{Candidate, Listing, Rank, in_order};
 use fed_auth::Level;
 use fed_json::NoMemory;
 use fed_room_contract::Graph;
@@ -20,7 +20,8 @@ type PowerRank<'a> = Rank<'a, Reverse<Level>>;
 /// A set of events in the reverse topological power order (room version 2, "State resolution", "Definitions"): an event comes after those
 /// of the set that are in its auth chain, and of the others the greater level of the sender comes first, then the earlier time, then the
 /// smaller id. The level of a sender is that by the power levels event and the create event among the auth events. The auth chains of up
-/// to 64 events are found by one walk; beside this it takes time in proportion to the square of the set.
+/// to 64 events are found by one walk, and what of the set is in each is listed; beside this it takes time in proportion to the set, and to
+/// the logarithm of how many may come next.
 ///
 /// # Errors
 ///
@@ -30,8 +31,22 @@ pub fn power_order(alloc: Global, graph: &Graph, set: &[usize]) -> Result<Vec<us
     ensures places { IfOk result (λ places. places.items ≡ power_order_of graph.now.stored set.now) }
     ensures within { IfOk result (λ places. All (λ place. place < length graph.now.stored) places.items) }
 {
+    power_order_by(alloc, Listing::Ready, graph, set)
+}
+
+// The same, with the events that come next found in one of two ways.
+pub(crate) fn power_order_by(
+    alloc: Global,
+    listing: Listing,
+    graph: &Graph,
+    set: &[usize],
+) -> Result<Vec<usize>, NoMemory>
+    requires { All (λ place. place < length graph.now.stored) set.now }
+    ensures places { IfOk result (λ places. places.items ≡ power_order_of graph.now.stored set.now) }
+    ensures within { IfOk result (λ places. All (λ place. place < length graph.now.stored) places.items) }
+{
     let candidates = candidates(alloc, graph, set)?;
-    in_order(alloc, graph.len(), &candidates)
+    in_order(alloc, listing, graph.len(), &candidates)
 }
 
 // The events of a set, with what the order needs of each. The auth chains of up to 64 events are found by one walk.

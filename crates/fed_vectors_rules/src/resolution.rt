@@ -44,10 +44,19 @@ fn step(operation: Arguments<'_>, graph: &Graph) -> Answer {
     }
 }
 
+// What these states resolve to; and where the plain program of it gives another state, both.
 fn resolve(operation: Arguments<'_>, graph: &Graph) -> Answer {
+    let alloc = operation.alloc;
     let states = states(operation, "resolve", graph)?;
-    let resolved = fed_resolve::resolve(operation.alloc, graph, &states)?;
-    places_of(operation.alloc, graph, &resolved)
+    let resolved = fed_resolve::resolve(alloc, graph, &states)?;
+    let plain = fed_resolve::resolve_plainly(alloc, graph, &states)?;
+    let resolved = places_of(alloc, graph, &resolved)?;
+    let plain = places_of(alloc, graph, &plain)?;
+    if resolved == plain {
+        return Ok(resolved);
+    }
+    let both = List::new(alloc).with(Ok(resolved)).with(Ok(plain));
+    both.into_answer()
 }
 
 fn unconflicted(operation: Arguments<'_>, graph: &Graph) -> Answer {

@@ -6,7 +6,7 @@ use Rattle.fed_resolve.specs.Mainline.{mainline, is_before_in_mainline, at_once}
 use Rattle.fed_resolve.specs.RankParts.{AreIndices, IsMainlineCandidate}
 use Rattle.fed_resolve.proofs.Orders.{order-holds}
 use Rattle.fed_resolve.proofs.Orderings.{mainline-compares, mainline-listed, mainline-within}
-use Rattle.fed_resolve.proofs.mainline.mainline_order.Goals as goal
+use Rattle.fed_resolve.proofs.mainline.mainline_order_by.Goals as goal
 
 pub in_order-requires : goal.in_order-requires
 in_order-requires c =

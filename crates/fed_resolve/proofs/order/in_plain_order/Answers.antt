@@ -4,8 +4,8 @@ use Rattle.fed_resolve.specs.Order.{is_among}
 use Rattle.fed_resolve.specs.OrderParts.{AreListedFronts, candidates_from, next_place}
 use Rattle.fed_resolve.proofs.Marks.{written}
 use Rattle.fed_resolve.proofs.Orders.{order-next, order-end, first-marked, next-below, marks-more, fronts-more}
-use Rattle.fed_resolve.proofs.order.in_order.Goals.{else-loop-test, then-loop-test+in_default}
-use Rattle.fed_resolve.proofs.order.in_order.Goals as goal
+use Rattle.fed_resolve.proofs.order.in_plain_order.Goals.{else-loop-test, then-loop-test+in_default}
+use Rattle.fed_resolve.proofs.order.in_plain_order.Goals as goal
 
 pub index_mut-requires : goal.index_mut-requires
 index_mut-requires g c =

@@ -2,7 +2,7 @@ use Rattle.std.proofs.Common.{◌≡◌, ◌-◌, ◌++◌, [], length}
 use Rattle.fed_resolve.specs.Marks.{AreMarks}
 use Rattle.fed_resolve.specs.Order.{is_among}
 use Rattle.fed_resolve.specs.OrderParts.{AreListedFronts, candidates_from}
-use Rattle.fed_resolve.proofs.order.in_order.Given as goal
+use Rattle.fed_resolve.proofs.order.in_plain_order.Given as goal
 
 -- what is listed and what is left are listed as the whole is
 abbrev pub invariant-loop : goal.invariant-loop

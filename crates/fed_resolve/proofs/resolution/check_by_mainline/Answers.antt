@@ -5,8 +5,8 @@ use Rattle.fed_resolve.specs.Checks.{checked}
 use Rattle.fed_resolve.specs.Mainline.{mainline_order}
 use Rattle.fed_resolve.proofs.resolution.check_by_mainline.Goals as goal
 
-pub mainline_order-requires-clause-set : goal.mainline_order-requires-clause-set
-mainline_order-requires-clause-set c =
+pub mainline_order_by-requires-clause-set : goal.mainline_order_by-requires-clause-set
+mainline_order_by-requires-clause-set c =
     subst (All (λ place. place < length c.args.graph.now.stored)) (sym c.deref.ensures.value)
     (subst (λ n. All (λ place. place < n) c.in_ok-places.places.items) c.requires c.in_ok-places.ensures.within)
 

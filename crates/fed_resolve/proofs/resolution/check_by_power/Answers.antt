@@ -4,8 +4,8 @@ use Rattle.fed_resolve.specs.Checks.{checked}
 use Rattle.fed_resolve.specs.PowerOrder.{power_order}
 use Rattle.fed_resolve.proofs.resolution.check_by_power.Goals as goal
 
-pub power_order-requires : goal.power_order-requires
-power_order-requires c =
+pub power_order_by-requires : goal.power_order_by-requires
+power_order_by-requires c =
     subst (All (λ place. place < length c.args.graph.now.stored)) (sym c.deref.ensures.value)
     (subst (λ n. All (λ place. place < n) c.in_ok-places.places.items) c.requires c.in_ok-places.ensures.within)
 

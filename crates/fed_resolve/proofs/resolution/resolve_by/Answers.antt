@@ -4,7 +4,7 @@ use Rattle.fed_room_contract.specs.State.{StateMap}
 use Rattle.fed_resolve.specs.Resolution.{resolved_of}
 use Rattle.fed_resolve.proofs.EqualStates.{all-resolved}
 use Rattle.fed_resolve.proofs.Resolved.{none-resolved}
-use Rattle.fed_resolve.proofs.resolution.resolve.Goals as goal
+use Rattle.fed_resolve.proofs.resolution.resolve_by.Goals as goal
 
 nothing : (states : List StateMap) → length states ≡ 0 → states ≡ []
 nothing [] e = refl

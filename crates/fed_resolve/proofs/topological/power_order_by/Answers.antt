@@ -6,7 +6,7 @@ use Rattle.fed_resolve.specs.RankParts.{IsPowerCandidate}
 use Rattle.fed_resolve.specs.PowerOrder.{is_before_in_power, has_chain_listed}
 use Rattle.fed_resolve.proofs.Orders.{order-holds}
 use Rattle.fed_resolve.proofs.Orderings.{power-listed, power-within}
-use Rattle.fed_resolve.proofs.topological.power_order.Goals as goal
+use Rattle.fed_resolve.proofs.topological.power_order_by.Goals as goal
 
 pub in_order-requires : goal.in_order-requires
 in_order-requires c =
