@@ -1,5 +1,5 @@
 // Events listed one after another, by the set of those that may be listed.
-ghost use Rattle.std.specs.Prelude.{◌≡◌, ◌<◌, ◌==◌, ℕ, Bool, [], true, All, IfOk, IfSome, OnOk, length, map};
+ghost use Rattle.std.specs.Prelude.{◌≡◌, ◌<◌, ℕ, Bool, [], true, All, IfOk, IfSome, OnOk, length};
 ghost use Rattle.fed_resolve.specs.ChainParts.{is_marked};
 ghost use Rattle.fed_resolve.specs.OrderParts.{IsWithin, next_place, candidates_from};
 ghost use Rattle.fed_resolve.specs.ReadyParts.{AreKept, AreHeld, IsReadySet, none_left, is_left_at, is_left_waiting, or_left};
@@ -51,7 +51,7 @@ pub(crate) struct ReadySet<R: Ord> {
 }
 
 impl<R: Ord + Copy> ReadySet<R> {
-    // Of events of which so many places are listed.
+    // Of these events, of which those at the places that are marked are listed.
     fn new(
         alloc: Global,
         candidates: &[Candidate<R>],
