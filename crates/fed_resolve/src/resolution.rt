@@ -28,8 +28,8 @@ use std::alloc::Global;
 /// itself. In which order the states are given makes no difference.
 ///
 /// The graph has to hold what the states name: an event that it lacks has no auth chain and counts as missing. The time grows with the
-/// graph, with the states, and with the full conflicted set and what of it is in the auth chains of its power events; where all states are
-/// equal, with the states alone.
+/// graph, with the states, with the full conflicted set and its logarithm, and, by a test of one bit, with the square of the power events of
+/// that set and of what of it is in their auth chains; where all states are equal, with the states alone.
 ///
 /// # Errors
 ///

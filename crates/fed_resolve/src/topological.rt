@@ -20,8 +20,8 @@ type PowerRank<'a> = Rank<'a, Reverse<Level>>;
 /// A set of events in the reverse topological power order (room version 2, "State resolution", "Definitions"): an event comes after those
 /// of the set that are in its auth chain, and of the others the greater level of the sender comes first, then the earlier time, then the
 /// smaller id. The level of a sender is that by the power levels event and the create event among the auth events. The auth chains of up
-/// to 64 events are found by one walk, and what of the set is in each is listed; beside this it takes time in proportion to the set, and to
-/// the logarithm of how many may come next.
+/// to 64 events are found by one walk. What of the set is in each is found by a test of one bit for each pair of the set; beside this it takes
+/// time in proportion to what was found, and to the set and its logarithm.
 ///
 /// # Errors
 ///
