@@ -1,6 +1,7 @@
 -- States that are kept by earlier ones.
-use Rattle.std.proofs.Common.{◌≡◌, ◌<◌, ◌≤◌, ◌+◌, ◌++◌, ◌∷◌, [], ℕ, zero, suc, List, true, false, Option, None, Some, length, ◌≢◌, ◌&&◌, true≢false, take, slice_get, unwrap_or, option_map, refl, sym, ap, subst, ◌∙◌, ◌⊎◌, inl, inr, arith, length-append}
+use Rattle.std.proofs.Common.{◌≡◌, ◌<◌, ◌≤◌, ◌+◌, ◌%◌, ◌^◌, ◌++◌, ◌∷◌, [], ℕ, zero, suc, List, Bool, true, false, Option, None, Some, length, ◌≢◌, ◌&&◌, true≢false, take, slice_get, unwrap_or, option_map, refl, sym, ap, subst, ◌∙◌, ◌⊎◌, inl, inr, arith, length-append}
 use Rattle.std.proofs.lemmas.Bool.{cases_lt, and_parts}
+use Rattle.std.proofs.lemmas.Nat.{pow_pos, pow_apart, and_or_self, and_or_apart}
 use Rattle.std.proofs.lemmas.List.{length-take, take-append-le, get_or-take, get_or_past}
 use Rattle.std.proofs.lemmas.Option.{slice_get_within, slice_get-get_or}
 use Rattle.std.proofs.lemmas.Slice.Eq.{bytes_eq-Decides}
@@ -8,10 +9,11 @@ use Rattle.std.proofs.Math.Nat.{min-le_left, min-le_right}
 use Rattle.std.proofs.Math.ListN.{get_or-append}
 use Rattle.std.proofs.Math.Seq.{get_or-append_seam, take-append_seam}
 use Rattle.std.specs.Prelude.{⊤, string_bytes, bytes_eq}
+use Rattle.std.specs.Int.Bits.{bit_and, bit_or}
 use Rattle.std.specs.FinMap as finite
 use Rattle.fed_room_contract.specs.State.{StateKey, StateMap, key_cmp, entry_at, with_entry}
 use Rattle.fed_room_contract.specs.Steps.{state_at}
-use Rattle.fed_room_contract.specs.StepParts.{step_state, states_behind, states_of, is_root, is_root_at, IsRootOf, IsLower, AreSteps}
+use Rattle.fed_room_contract.specs.StepParts.{step_state, states_behind, states_of, is_root, is_root_at, base_of, base_at, bits_of, bits_at, bit_of, tag_of, IsRootOf, IsLower, AreSteps}
 use Rattle.fed_room_contract.specs.declared.step.Laid.{Laid as LaidEntry}
 use Rattle.fed_room_contract.specs.declared.step.Step.{Step}
 use Rattle.fed_room_contract.specs.declared.step.Step.TheVariants.{Same, Laid, Whole}
@@ -50,7 +52,7 @@ shorter steps place = let is = length-take place steps in let least = min-le_lef
 
 names : (steps : List Step) (place : ℕ) (step : Step) → IsLower (take place steps) step → NamesBelow place step
 names steps place (Same parent) lower = let least = shorter steps place in let within = lower.within in omega (arith, least, within)
-names steps place (Laid laid) lower = let least = shorter steps place in let within = lower.0.within in omega (arith, least, within)
+names steps place (Laid laid) lower = let least = shorter steps place in let within = lower.root.within in omega (arith, least, within)
 names steps place (Whole state) lower = tt
 
 alike : (states others : List StateMap) (n : ℕ) → ((place : ℕ) → place < n → state_at states place ≡ state_at others place) → (step : Step) → NamesBelow n step
@@ -166,7 +168,7 @@ pub same-root : (steps : List Step) (place parent : ℕ) → AreSteps steps → 
 same-root steps place parent are e = root-of steps place parent (are place (Same parent) e)
 
 pub laid-root : (steps : List Step) (place : ℕ) (laid : LaidEntry) → AreSteps steps → slice_get steps place ≡ Some (Laid laid) → IsRootOf steps laid.parent
-laid-root steps place laid are e = root-of steps place laid.parent (are place (Laid laid) e).0
+laid-root steps place laid are e = root-of steps place laid.parent (are place (Laid laid) e).root
 
 pub within-steps : (steps : List Step) (after : List StateMap) (place : ℕ) → states_of steps ≡ after → place < length after → place < length steps
 within-steps steps after place same below = let long = ap length same in let is = count steps in omega (arith, long, is, below)
@@ -174,3 +176,104 @@ within-steps steps after place same below = let long = ap length same in let is 
 pub root-there : (steps : List Step) (place : ℕ) (step : Step) → slice_get steps place ≡ Some step → ((laid : LaidEntry) × (step ≡ Laid laid)) ⊎ ((state : StateMap) × (step ≡ Whole state)) → is_root_at steps place ≡ true
 root-there steps place step e (inl (laid, is)) = ap (λ (o : Option Step). unwrap_or (option_map is_root o) false) e ∙ ap is_root is
 root-there steps place step e (inr (state, is)) = ap (λ (o : Option Step). unwrap_or (option_map is_root o) false) e ∙ ap is_root is
+
+-- ---- the whole state over which entries are laid
+
+root-at : (steps : List Step) (place : ℕ) (o : Option Step) → slice_get steps place ≡ o → is_root_at steps place ≡ unwrap_or (option_map is_root o) false
+root-at steps place o e = ap (λ (o : Option Step). unwrap_or (option_map is_root o) false) e
+
+base-there : (steps : List Step) (place : ℕ) (o : Option Step) → slice_get steps place ≡ o → base_at steps place ≡ unwrap_or (option_map (base_of place) o) place
+base-there steps place o e = ap (λ (o : Option Step). unwrap_or (option_map (base_of place) o) place) e
+
+bits-there : (steps : List Step) (place : ℕ) (o : Option Step) → slice_get steps place ≡ o → bits_at steps place ≡ unwrap_or (option_map bits_of o) 0
+bits-there steps place o e = ap (λ (o : Option Step). unwrap_or (option_map bits_of o) 0) e
+
+-- those of an entry that is laid, by what is laid below it
+laid-base : (steps : List Step) (place : ℕ) (laid : LaidEntry) → AreSteps steps → slice_get steps place ≡ Some (Laid laid) → laid.base ≡ base_at steps laid.parent
+laid-base steps place laid are e =
+    let lower = are place (Laid laid) e in
+    lower.base ∙ ap (λ (o : Option Step). unwrap_or (option_map (base_of laid.parent) o) laid.parent) (front-get steps place laid.parent lower.root.within)
+
+laid-bits : (steps : List Step) (place : ℕ) (laid : LaidEntry) → AreSteps steps → slice_get steps place ≡ Some (Laid laid) → laid.bits ≡ bit_or (bits_at steps laid.parent) (bit_of laid.tag)
+laid-bits steps place laid are e =
+    let lower = are place (Laid laid) e in
+    lower.bits ∙ ap (λ (o : Option Step). bit_or (unwrap_or (option_map bits_of o) 0) (bit_of laid.tag)) (front-get steps place laid.parent lower.root.within)
+
+base-one : (steps : List Step) → AreSteps steps → (place : ℕ) → ((p : ℕ) → p < place → base_at steps p ≤ p) → (o : Option Step) → slice_get steps place ≡ o → base_at steps place ≤ place
+base-one steps are place rest None e = let is = base-there steps place None e in omega (arith, is)
+base-one steps are place rest (Some (Same parent)) e = let is = base-there steps place (Some (Same parent)) e in omega (arith, is)
+base-one steps are place rest (Some (Whole state)) e = let is = base-there steps place (Some (Whole state)) e in omega (arith, is)
+base-one steps are place rest (Some (Laid laid)) e =
+    let is = base-there steps place (Some (Laid laid)) e in
+    let same = laid-base steps place laid are e in
+    let less = laid-before steps place laid are e in
+    let least = rest laid.parent less in
+    omega (arith, is, same, less, least)
+
+base-least : (steps : List Step) → AreSteps steps → (n place : ℕ) → place < n → base_at steps place ≤ place
+base-least steps are zero place less = absurd (omega (arith, less))
+base-least steps are (suc n) place less = base-one steps are place (λ p below. base-least steps are n p (omega (arith, less, below))) (slice_get steps place) refl
+
+pub base-before : (steps : List Step) (place : ℕ) (laid : LaidEntry) → AreSteps steps → slice_get steps place ≡ Some (Laid laid) → laid.base < place
+base-before steps place laid are e =
+    let same = laid-base steps place laid are e in
+    let less = laid-before steps place laid are e in
+    let least = base-least steps are (laid.parent + 1) laid.parent (omega arith) in
+    omega (arith, same, less, least)
+
+-- ---- look-ups that pass what is laid
+
+-- a word with the bit of one tag and without that of another
+other-bit : (bits tag other : ℕ) → bit_and (bit_or bits (bit_of other)) (bit_of tag) ≡ 0 → other % 64 ≢ tag % 64
+other-bit bits tag other none e =
+    let power = pow_pos (tag % 64) in
+    let same : bit_and (bit_or bits (bit_of tag)) (bit_of tag) ≡ bit_of tag = and_or_self (bit_of tag) bits in
+    let no : bit_of tag ≡ 0 = sym same ∙ ap (λ k. bit_and (bit_or bits (2 ^ k)) (bit_of tag)) (sym e) ∙ none in
+    omega (arith, power, no)
+
+fewer-bits : (bits tag other : ℕ) → bit_and (bit_or bits (bit_of other)) (bit_of tag) ≡ 0 → bit_and bits (bit_of tag) ≡ 0
+fewer-bits bits tag other none = sym (and_or_apart (bit_of tag) bits (bit_of other) (pow_apart (other % 64) (tag % 64) (other-bit bits tag other none))) ∙ none
+
+-- an entry of another tag is another one
+other-entry : (laid : LaidEntry) (kind key : List ℕ) → laid.tag ≡ tag_of (string_bytes laid.kind) (string_bytes laid.state_key) → laid.tag % 64 ≢ tag_of kind key % 64
+    → (b : Bool) → (bytes_eq (string_bytes laid.state_key) key && bytes_eq (string_bytes laid.kind) kind) ≡ b → b ≡ false
+other-entry laid kind key tag apart false e = refl
+other-entry laid kind key tag apart true e =
+    let parts = and_parts (bytes_eq (string_bytes laid.state_key) key) (bytes_eq (string_bytes laid.kind) kind) e in
+    let one = (bytes_eq-Decides (string_bytes laid.kind) kind).0 parts.1 in
+    let two = (bytes_eq-Decides (string_bytes laid.state_key) key).0 parts.0 in
+    absurd (apart (ap (λ k. k % 64) (tag ∙ (λ i. tag_of (one i) (two i)))))
+
+-- the same holds at a place as at the one over which entries are laid there, where none of them has the bit
+abbrev IsPassed : List Step → List ℕ → List ℕ → ℕ → Type 0
+IsPassed steps kind key place = is_root_at steps place ≡ true → bit_and (bits_at steps place) (bit_of (tag_of kind key)) ≡ 0
+    → entry_at (state_at (states_of steps) (base_at steps place)) kind key ≡ entry_at (state_at (states_of steps) place) kind key
+
+passed-one : (steps : List Step) (kind key : List ℕ) → AreSteps steps → (place : ℕ) → ((p : ℕ) → p < place → IsPassed steps kind key p) → (o : Option Step) → slice_get steps place ≡ o
+    → IsPassed steps kind key place
+passed-one steps kind key are place rest None e root none = absurd (true≢false (sym root ∙ root-at steps place None e))
+passed-one steps kind key are place rest (Some (Same parent)) e root none = absurd (true≢false (sym root ∙ root-at steps place (Some (Same parent)) e))
+passed-one steps kind key are place rest (Some (Whole state)) e root none =
+    ap (λ p. entry_at (state_at (states_of steps) p) kind key) (base-there steps place (Some (Whole state)) e)
+passed-one steps kind key are place rest (Some (Laid laid)) e root none =
+    let lower = are place (Laid laid) e in
+    let without : bit_and (bit_or (bits_at steps laid.parent) (bit_of laid.tag)) (bit_of (tag_of kind key)) ≡ 0 =
+    ap (λ bits. bit_and bits (bit_of (tag_of kind key))) (sym (bits-there steps place (Some (Laid laid)) e ∙ laid-bits steps place laid are e)) ∙ none in
+    let apart = other-bit (bits_at steps laid.parent) (tag_of kind key) laid.tag without in
+    let below = rest laid.parent (laid-before steps place laid are e) (laid-root steps place laid are e).root (fewer-bits (bits_at steps laid.parent) (tag_of kind key) laid.tag without) in
+    let another = other-entry laid kind key lower.tag apart (bytes_eq (string_bytes laid.state_key) key && bytes_eq (string_bytes laid.kind) kind) refl in
+    ap (λ p. entry_at (state_at (states_of steps) p) kind key) (base-there steps place (Some (Laid laid)) e ∙ laid-base steps place laid are e)
+    ∙ below
+    ∙ sym (found-below (state_at (states_of steps) laid.parent) laid kind key another)
+    ∙ ap (λ (s : StateMap). entry_at s kind key) (sym (at-step steps place (Laid laid) are e))
+
+passed : (steps : List Step) (kind key : List ℕ) → AreSteps steps → (n place : ℕ) → place < n → IsPassed steps kind key place
+passed steps kind key are zero place less = absurd (omega (arith, less))
+passed steps kind key are (suc n) place less = passed-one steps kind key are place (λ p below. passed steps kind key are n p (omega (arith, less, below))) (slice_get steps place) refl
+
+pub passed-laid : (steps : List Step) (kind key : List ℕ) (place : ℕ) (laid : LaidEntry) → AreSteps steps → slice_get steps place ≡ Some (Laid laid) → bit_and laid.bits (bit_of (tag_of kind key)) ≡ 0
+    → entry_at (state_at (states_of steps) laid.base) kind key ≡ entry_at (state_at (states_of steps) place) kind key
+passed-laid steps kind key place laid are e none =
+    ap (λ p. entry_at (state_at (states_of steps) p) kind key) (sym (base-there steps place (Some (Laid laid)) e))
+    ∙ passed steps kind key are (place + 1) place (omega arith) (root-at steps place (Some (Laid laid)) e)
+    (ap (λ bits. bit_and bits (bit_of (tag_of kind key))) (bits-there steps place (Some (Laid laid)) e) ∙ none)

@@ -1,5 +1,5 @@
 -- Lists of places, one after another.
-use Rattle.std.proofs.Common.{◌≡◌, ◌<◌, ◌≤◌, ◌+◌, ◌-◌, ◌++◌, ◌∷◌, [], ℕ, suc, List, true, false, Option, None, Some, IfSome, length, take, drop, map, get_or, unwrap_or, append-nil, refl, sym, ap, subst, ◌∙◌, ◌⊎◌, inl, inr, arith, length-append}
+use Rattle.std.proofs.Common.{◌≡◌, ◌<◌, ◌≤◌, ◌+◌, ◌-◌, ◌++◌, ◌∷◌, [], ℕ, suc, List, true, false, Option, None, Some, IfSome, length, take, drop, map, get_or, unwrap_or, append-nil, sym, ap, ◌∙◌, ◌⊎◌, inl, inr, arith, length-append}
 use Rattle.std.specs.List.{concat, slice_range}
 use Rattle.std.specs.Slice.{IsGetRangeResult}
 use Rattle.std.specs.Borrow.{Bor}

@@ -5,14 +5,15 @@ ghost use Rattle.fed_room_contract.specs.Steps.{state_at};
 ghost use Rattle.fed_room_contract.specs.StepParts.{AreSteps, IsLower, states_of, step_state, is_root_at, tag_of as tag_of_key};
 
 use crate::state::State;
-use crate::step::{Laid, MAX_ABOVE, Step, tag_of};
+use crate::step::{Laid, MAX_ABOVE, Step, bit_of, tag_of};
 use fed_event::EventId;
 use fed_json::NoMemory;
 use std::alloc::Global;
 use std::marker::Model;
 
 /// States one after another, and the next one, where it is made already. Each is kept as the same as an earlier one, as an earlier one with
-/// one entry laid over, or whole. A look-up passes at most 32 others before it comes to a whole one.
+/// one entry laid over, or whole. A look-up passes at most 32 others before it comes to a whole one, and mostly none: each entry knows by a
+/// word of bits what may be laid below it.
 ///
 /// Contracts see it as these states.
 #[derive(Drop)]
@@ -150,15 +151,19 @@ fn find<'a>(
     requires tag { tag ≡ tag_of_key kind.now state_key.now }
     ensures { option_map (λ id. id.now) result ≡ entry_at (state_at (states_of steps.now) place) kind.now state_key.now }
 {
+    let bit = bit_of(tag);
     let mut place = place;
     while let Some(step) = steps.get(place) {
         match step {
             Step::Same { parent } => place = *parent,
             Step::Laid(laid) => {
-                if laid.is_at(tag, kind, state_key) {
+                if laid.bits & bit == 0 {
+                    place = laid.base;
+                } else if laid.is_at(tag, kind, state_key) {
                     return Some(&laid.id);
+                } else {
+                    place = laid.parent;
                 }
-                place = laid.parent;
             }
             Step::Whole(state) => return state.get(kind, state_key),
         }
@@ -213,16 +218,19 @@ fn laid(
     ensures state { IfOk result (λ step. step_state (states_of steps.now) step ≡ with_entry (state_at (states_of steps.now) place) kind.now state_key.now id) }
 {
     let parent = root(steps, place);
-    let below = steps[parent].above();
-    if below >= MAX_ABOVE {
+    let below = &steps[parent];
+    if below.above() >= MAX_ABOVE {
         let mut state = copy_at(alloc, steps, parent)?;
         state.insert(alloc, kind, state_key, id)?;
         return Ok(Step::Whole(state));
     }
+    let tag = tag_of(kind, state_key);
     Ok(Step::Laid(Laid {
         parent,
-        above: below + 1,
-        tag: tag_of(kind, state_key),
+        base: below.base(parent),
+        above: below.above() + 1,
+        bits: below.bits() | bit_of(tag),
+        tag,
         kind: String::from_str(alloc, kind)?,
         state_key: String::from_str(alloc, state_key)?,
         id,

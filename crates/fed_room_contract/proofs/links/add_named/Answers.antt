@@ -1,4 +1,4 @@
-use Rattle.std.proofs.Common.{◌≤◌, length, ap, sym, ◌∙◌, arith, unwrap_or}
+use Rattle.std.proofs.Common.{◌≤◌, length, ap, arith}
 use Rattle.std.specs.Prelude.{option_and_then}
 use Rattle.fed_json.specs.JsonRef.{as_items}
 use Rattle.fed_event.specs.declared.field.Field.TheVariants.{AuthEvents, PrevEvents}

@@ -1,11 +1,12 @@
-use Rattle.std.proofs.Common.{Some, option_map, refl, sym, ap, ◌∙◌}
+use Rattle.std.proofs.Common.{Some, refl, sym, ap, ◌∙◌}
+use Rattle.std.specs.Int.Bits.{bit_and}
 use Rattle.std.proofs.lemmas.Option.{slice_get_past, slice_get_read}
 use Rattle.fed_room_contract.specs.State.{StateMap, entry_at}
 use Rattle.fed_room_contract.specs.Steps.{state_at}
-use Rattle.fed_room_contract.specs.StepParts.{states_of}
+use Rattle.fed_room_contract.specs.StepParts.{states_of, bit_of}
 use Rattle.fed_room_contract.specs.declared.step.Step.{Step}
 use Rattle.fed_room_contract.specs.declared.step.Step.TheVariants.{Same, Laid, Whole}
-use Rattle.fed_room_contract.proofs.KeptSteps.{at-step, at-none, parent-before, laid-before, found-here, found-below}
+use Rattle.fed_room_contract.proofs.KeptSteps.{at-step, at-none, parent-before, laid-before, found-here, found-below, base-before, passed-laid}
 use Rattle.fed_room_contract.proofs.steps.find.Goals as goal
 
 pub loop-step-smaller-in-Same : goal.loop-step-smaller-in-Same
@@ -20,11 +21,26 @@ loop-step-preserved-in-Same c =
     let there = slice_get_read steps _ c.loop-step.place c.in-Some.step.now refl c.in-Some.ensures.lookup.3.0 c.in-Some.ensures.lookup.1 ∙ ap (λ (s : Step). Some s) c.in-Same.is in
     sym (ap (λ (s : StateMap). entry_at s c.args.kind.now c.args.state_key.now) (at-step steps c.loop-step.place (Same c.in-Same.parent) c.requires.steps there)) ∙ c.loop-step.invariant
 
+pub loop-step-smaller-then-laid-bit-eq0 : goal.loop-step-smaller-then-laid-bit-eq0
+loop-step-smaller-then-laid-bit-eq0 c =
+    let steps = c.args.steps.now in
+    let there = slice_get_read steps _ c.loop-step.place c.in-Some.step.now refl c.in-Some.ensures.lookup.3.0 c.in-Some.ensures.lookup.1 ∙ ap (λ (s : Step). Some s) c.in-Laid.is in
+    base-before steps c.loop-step.place c.in-Laid.laid c.requires.steps there
+
+pub loop-step-preserved-then-laid-bit-eq0 : goal.loop-step-preserved-then-laid-bit-eq0
+loop-step-preserved-then-laid-bit-eq0 c =
+    let steps = c.args.steps.now in
+    let laid = c.in-Laid.laid in
+    let there = slice_get_read steps _ c.loop-step.place c.in-Some.step.now refl c.in-Some.ensures.lookup.3.0 c.in-Some.ensures.lookup.1 ∙ ap (λ (s : Step). Some s) c.in-Laid.is in
+    let bit = c.bit_of-bit.ensures ∙ ap bit_of c.requires.tag in
+    let none = ap (bit_and laid.bits) (sym bit) ∙ c.if-laid-bit-eq0.true in
+    passed-laid steps c.args.kind.now c.args.state_key.now c.loop-step.place laid c.requires.steps there none ∙ c.loop-step.invariant
+
 pub is_at-requires-clause-own : goal.is_at-requires-clause-own
 is_at-requires-clause-own c =
     let steps = c.args.steps.now in
     let there = slice_get_read steps _ c.loop-step.place c.in-Some.step.now refl c.in-Some.ensures.lookup.3.0 c.in-Some.ensures.lookup.1 ∙ ap (λ (s : Step). Some s) c.in-Laid.is in
-    (c.requires.steps c.loop-step.place (Laid c.in-Laid.laid) there).1.1.1
+    (c.requires.steps c.loop-step.place (Laid c.in-Laid.laid) there).tag
 
 pub returns-then-is_at : goal.returns-then-is_at
 returns-then-is_at c =

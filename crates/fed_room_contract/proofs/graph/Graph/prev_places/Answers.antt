@@ -1,6 +1,6 @@
-use Rattle.std.proofs.Common.{◌≡◌, ◌<◌, All, List, ℕ, map, length, sym, ap, subst, ◌∙◌}
+use Rattle.std.proofs.Common.{◌≡◌, ◌<◌, List, map, length, ap, subst, ◌∙◌}
 use Rattle.fed_room_contract.specs.declared.graph.Stored.{Stored}
-use Rattle.fed_room_contract.specs.Graph.{IsGraph, links_in, prev_links, prev_places_at}
+use Rattle.fed_room_contract.specs.Graph.{IsGraph, prev_links, prev_places_at}
 use Rattle.fed_room_contract.specs.GraphState.{GraphState}
 use Rattle.std.proofs.lemmas.List.Elements.{All-same}
 use Rattle.fed_room_contract.proofs.GraphLinks.{prevs-at, prevs-before, prevs-within}
