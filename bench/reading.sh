@@ -1,14 +1,15 @@
 #!/bin/sh
-# Measures what reading a request with a body of 8,000,000 bytes costs: the built program crates/fed_bench/out/fed_bench (after
-# `rt run < stdin` there) reads one whose body comes by its length and one that comes in chunks of 65,536 bytes, from pieces of 65,536, 4,096,
-# 256, 16 and 1 bytes.
+# Measures what reading a request costs whose body has 64,000 bytes, as a transaction of 50 events may have, and one of 8,000,000: the built
+# program crates/fed_bench/out/fed_bench (after `rt run < stdin` there) reads one whose body comes by its length and one that comes in chunks of
+# 65,536 bytes, from pieces of 65,536, 4,096, 256, 16 and 1 bytes.
 #
 #     bench/reading.sh [RUNS [PEER]]
 #
 # PEER is a program that does the same work for `PEER http FILE TIMES PIECE`, to compare with. Prints the processor time for one request, of
 # the median of the runs, less what a run without a request takes, and the peak memory of a run, the text of the request among it. Both
-# programs run in turn. Of large pieces nearly all of the time is one copy of the body, whose pace hangs on where its bytes lie; so that is
-# the mean for heads of eight lengths. Figures of two machines can't be compared.
+# programs run in turn, and each run reads 8,000,000 bytes so many times, in requests of either size. Of the long body in large pieces nearly all
+# of the time is one copy of it, whose pace hangs on where its bytes lie; so what large pieces take is the mean for heads of eight lengths.
+# Figures of two machines can't be compared.
 set -e
 here=$(cd "$(dirname "$0")" && pwd)
 program=$here/../crates/fed_bench/out/fed_bench
@@ -17,15 +18,15 @@ python3 - "$program" "${1:-3}" "${2:-}" <<'PY'
 import os, statistics, subprocess, sys, tempfile
 
 program, runs, peer = sys.argv[1], int(sys.argv[2]), sys.argv[3]
-SIZE, CHUNK, SHIFT = 8_000_000, 65_536, 525
+SIZES, CHUNK, SHIFT = (64_000, 8_000_000), 65_536, 525
 
 
 # The text is never held here as a whole: a process that is started counts what its parent holds as its own peak.
-def write_text(file, coding, field):
+def write_text(file, coding, size, field):
     file.write(b"PUT /p HTTP/1.1\r\nA: %s\r\n" % (b"b" * field))
-    file.write(b"Content-Length: %d\r\n\r\n" % SIZE if coding == "whole" else b"Transfer-Encoding: chunked\r\n\r\n")
-    for at in range(0, SIZE, CHUNK):
-        data = b"a" * min(CHUNK, SIZE - at)
+    file.write(b"Content-Length: %d\r\n\r\n" % size if coding == "whole" else b"Transfer-Encoding: chunked\r\n\r\n")
+    for at in range(0, size, CHUNK):
+        data = b"a" * min(CHUNK, size - at)
         file.write(data if coding == "whole" else b"%x\r\n%s\r\n" % (len(data), data))
     file.write(b"" if coding == "whole" else b"0\r\n\r\n")
     file.flush()
@@ -43,34 +44,36 @@ def once(command, given):
     return used.ru_utime + used.ru_stime, used.ru_maxrss / 1024
 
 
-def ours(coding, field, piece, times):
-    return once([program], b"read %s %d %d %d %d\n" % (coding.encode(), SIZE, piece, times, field))
+def ours(coding, size, field, piece, times):
+    return once([program], b"read %s %d %d %d %d\n" % (coding.encode(), size, piece, times, field))
 
 
-def theirs(coding, field, piece, times):
+def theirs(coding, size, field, piece, times):
     with tempfile.NamedTemporaryFile() as file:
-        write_text(file, coding, field)
+        write_text(file, coding, size, field)
         return once([peer, "http", file.name, str(times), str(piece)], b"")
 
 
 # The time for one request, and the peak memory, of so many, for each of these readers.
-def costs(readers, coding, piece, times):
+def costs(readers, coding, size, piece, times):
     fields = [k * SHIFT for k in range(8)] if piece >= 4_096 else [0]
     took, peak = [0.0] * len(readers), [0.0] * len(readers)
     for field in fields:
-        rounds = [[(read(coding, field, piece, times), read(coding, field, piece, 0)) for read in readers] for _ in range(runs)]
+        rounds = [[(read(coding, size, field, piece, times), read(coding, size, field, piece, 0)) for read in readers] for _ in range(runs)]
         for k in range(len(readers)):
             took[k] += statistics.median(some[0] - none[0] for some, none in (round[k] for round in rounds))
             peak[k] = max([peak[k]] + [round[k][0][1] for round in rounds])
     return [(one / times / len(fields), memory) for one, memory in zip(took, peak)]
 
 
-print("coding   bytes     piece   a request      memory" + ("    the peer's                  ratios" if peer else ""))
-for coding in ("whole", "chunked"):
-    for piece, times in ((65_536, 40), (4_096, 40), (256, 20), (16, 10), (1, 2)):
-        (one, memory), *rest = costs([ours, theirs] if peer else [ours], coding, piece, times)
-        row = f"{coding:<8} {SIZE:<9} {piece:<7} {one * 1e3:9.3f} ms {memory:6.1f} MiB"
-        for other, used in rest:
-            row += f" {other * 1e3:9.3f} ms {used:6.1f} MiB {one / other:7.2f} {memory / used:7.2f}"
-        print(row, flush=True)
+print("coding   bytes     piece     a request      memory" + ("      the peer's                  ratios" if peer else ""))
+for size in SIZES:
+    for coding in ("whole", "chunked"):
+        for piece, repeats in ((65_536, 40), (4_096, 40), (256, 20), (16, 10), (1, 2)):
+            times = repeats * SIZES[-1] // size
+            (one, memory), *rest = costs([ours, theirs] if peer else [ours], coding, size, piece, times)
+            row = f"{coding:<8} {size:<9} {piece:<7} {one * 1e6:11.1f} us {memory:6.1f} MiB"
+            for other, used in rest:
+                row += f" {other * 1e6:11.1f} us {used:6.1f} MiB {one / other:7.2f} {memory / used:7.2f}"
+            print(row, flush=True)
 PY
