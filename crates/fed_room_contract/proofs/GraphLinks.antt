@@ -1,17 +1,19 @@
 -- The places of the events that stored events name, as a graph grows.
-use Rattle.std.proofs.Common.{◌≡◌, ◌<◌, ◌≤◌, ℕ, suc, List, [], ◌∷◌, ◌++◌, append_assoc, Bool, true, false, not, ◌||◌, ◌+◌, cond, nat_lt, All, Option, None, Some, is_some, length, map, take, drop, get_or, refl, sym, ap, subst, ◌∙◌, ◌⊎◌, inl, inr, arith}
+use Rattle.std.proofs.Common.{◌≡◌, ◌<◌, ◌≤◌, ℕ, suc, List, [], ◌∷◌, ◌++◌, append_assoc, Bool, true, false, true≢false, not, ◌||◌, ◌+◌, cond, nat_lt, All, Option, None, Some, is_some, length, map, take, drop, get_or, refl, sym, ap, subst, ◌∙◌, ◌⊎◌, inl, inr, arith}
 use Rattle.std.specs.List.{position, position_or_len, list_any, list_all, filter_map, cons_option, slice_get, AllByRecursion}
-use Rattle.std.proofs.lemmas.Bool.{and_parts}
-use Rattle.std.proofs.lemmas.List.{get_or-map, get_or_past, length-map, map-append, take-append-drop}
+use Rattle.std.proofs.lemmas.Bool.{and_parts, lt-ltb, false_from_ne_true}
+use Rattle.std.proofs.lemmas.List.{get_or-map, get_or_past, get_or-take, length-map, map-append, take-append-drop}
+use Rattle.std.proofs.lemmas.List.Sums.{position_or_len_is}
+use Rattle.std.proofs.lemmas.Slice.Eq.{bytes_eq-Decides}
 use Rattle.std.proofs.lemmas.List.Elements.{All-from_recursion}
-use Rattle.std.proofs.lemmas.List.Folds.{list_all-append}
+use Rattle.std.proofs.lemmas.List.Folds.{list_all-append, list_any_at}
 use Rattle.std.proofs.lemmas.Option.{slice_get_cases}
 use Rattle.std.proofs.Math.ListN.{length-take}
 use Rattle.std.proofs.Math.Seq.{drop-cons}
 use Rattle.fed_event.specs.Fields.{auth_events_of, prev_events_of}
 use Rattle.fed_room_contract.specs.declared.graph.Stored.{Stored}
 use Rattle.fed_room_contract.specs.Places.{PlaceMap, place_at}
-use Rattle.fed_room_contract.specs.Graph.{IsGraph, IsNext, has_id, is_stored, is_ready, places_of, links_in, auth_links, prev_links}
+use Rattle.fed_room_contract.specs.Graph.{IsGraph, IsNext, has_id, id_of, is_stored, is_ready, places_of, links_in, auth_links, prev_links}
 use Rattle.fed_room_contract.proofs.Filled.{or}
 use Rattle.fed_room_contract.proofs.Graphs.{ready_stays}
 use Rattle.fed_room_contract.proofs.Positions.{is_some-position, position-push}
@@ -151,3 +153,36 @@ auths-within = links-within (λ s. auth_events_of s.event.event) (λ before s h.
 
 pub prevs-within : (xs : List Stored) (place : ℕ) → IsGraph xs → All (λ a. a < length xs) (links_in (prev_links xs) (slice_get xs place))
 prevs-within = links-within (λ s. prev_events_of s.event.event) (λ before s h. (both before s h).0)
+
+-- ---- an event at a place
+
+-- the event that stands at a place is the first of its id
+pub place_known : (xs : List Stored) (place : ℕ) (s : Stored) (id : List ℕ) → IsGraph xs → slice_get xs place ≡ Some s → has_id id s ≡ true → position (has_id id) xs ≡ Some place
+place_known xs place s id graph there has = by (slice_get_cases xs place).1
+  where
+    by : ((x : Stored) × (place < length xs) × (slice_get xs place ≡ Some x) × (get_or xs place x ≡ x)) ⊎ ((length xs ≤ place) × (slice_get xs place ≡ None)) → position (has_id id) xs ≡ Some place
+    by (inr (past, none)) = absurd (cc)
+    by (inl (x, inside, some, here)) = ap (λ n. cond (nat_lt n (length xs)) (Some n) None) first ∙ ap (λ b. cond b (Some place) None) (lt-ltb place (length xs) inside)
+      where
+        same : x ≡ s
+        same = let both = sym some ∙ there in cc
+
+        is : has_id id x ≡ true
+        is = ap (has_id id) same ∙ has
+
+        split : xs ≡ take place xs ++ x ∷ drop (suc place) xs
+        split = sym (take-append-drop place xs) ∙ ap (λ r. take place xs ++ r) (drop-cons xs place x inside ∙ ap (λ y. y ∷ drop (suc place) xs) here)
+
+        new : is_stored (take place xs) id ≡ false
+        new = subst (λ i. is_stored (take place xs) i ≡ false) ((bytes_eq-Decides (id_of x) id).0 is) (graph.each (take place xs) x (drop (suc place) xs) split).new
+
+        long : length (take place xs) ≡ place
+        long = omega (arith, length-take place xs)
+
+        others : (k : ℕ) → k < place → has_id id (get_or xs k x) ≡ false
+        others k less =
+            false_from_ne_true (has_id id (get_or xs k x))
+            (λ t. true≢false (sym (list_any_at (has_id id) (take place xs) k x (omega (arith, less, long)) (ap (has_id id) (get_or-take place xs k x (omega (arith, less))) ∙ t)) ∙ new))
+
+        first : position_or_len (has_id id) xs ≡ place
+        first = position_or_len_is (has_id id) xs place x (omega (arith, inside)) others (λ less. ap (has_id id) here ∙ is)

@@ -103,7 +103,10 @@ impl Graph {
         ensures place { result ≡ position (has_id id.now) self.now.stored }
         ensures within { IfSome result (λ place. place < length self.now.stored) }
     {
-        self.places.get(id)
+        match self.near_place(id) {
+            Some(place) => Some(place),
+            None => self.places.get(id),
+        }
     }
 
     /// The places of the auth events of the event at a place, in the order in which it names them: they were found once, when it was
@@ -201,6 +204,32 @@ impl Graph {
         match self.reserved.take() {
             Some(id) => id,
             None => unreachable!(),
+        }
+    }
+
+    // The place of the event of this id, where it is the last one or an auth event of that: of most ids that the next event names.
+    fn near_place(&self, id: &str) -> Option<usize>
+        ensures { IfSome result (λ place. position (has_id id.now) self.now.stored ≡ Some place) }
+    {
+        let last = self.events.len().checked_sub(1)?;
+        if self.is_at(last, id) {
+            return Some(last);
+        }
+        for place in self.auths.get(last) {
+            if self.is_at(*place, id) {
+                return Some(*place);
+            }
+        }
+        None
+    }
+
+    // Whether the event at a place has this id.
+    fn is_at(&self, place: usize, id: &str) -> bool
+        ensures { result ≡ true → position (has_id id.now) self.now.stored ≡ Some place }
+    {
+        match self.events.get(place) {
+            Some(stored) => stored.event.event().id().as_str() == id,
+            None => false,
         }
     }
 
