@@ -9,6 +9,3 @@ mod unanswered;
 
 pub use exchanging::exchange;
 pub use unanswered::Unanswered;
-
-#[cfg(test)]
-mod tests;

@@ -24,6 +24,3 @@ pub use outboxes::{are_of_journal, is_of_journal};
 pub use places::are_in_places;
 pub use received::{are_given, are_received};
 pub use sent::{are_sent_as_stored, is_sent_as_stored};
-
-#[cfg(test)]
-mod tests;

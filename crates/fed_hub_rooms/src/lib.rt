@@ -18,6 +18,3 @@ pub use access::{LockedRoom, RoomAccess};
 pub use ran::Ran;
 pub use room_token::RoomToken;
 pub use running::run_room;
-
-#[cfg(test)]
-mod tests;

@@ -46,6 +46,3 @@ pub use room_wire::EndedWire;
 pub use serve_token::{AnsweredRequest, ServeToken};
 pub use served::Served;
 pub use serving::{ServingDesk, serve_one};
-
-#[cfg(test)]
-mod tests;

@@ -35,6 +35,3 @@ pub use naming::{EduLedger, EventLedger, Naming};
 pub use seated_outbox::SeatedOutbox;
 pub use sending_journal::{EnterFault, SendingJournal};
 pub use unplaced::Unplaced;
-
-#[cfg(test)]
-mod tests;

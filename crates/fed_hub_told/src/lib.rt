@@ -28,6 +28,3 @@ pub use note::Note;
 pub use told::Told;
 pub use told_edu::ToldEdu;
 pub use told_event::ToldEvent;
-
-#[cfg(test)]
-mod tests;

@@ -25,6 +25,3 @@ mod setups;
 pub use faults::LoopFault;
 pub use load::{Counts, Load, MAX_CLIENTS, MAX_EVENTS};
 pub use running::loop_run;
-
-#[cfg(test)]
-mod tests;

@@ -33,8 +33,6 @@ mod places;
 mod plain;
 mod store;
 mod symbols;
-#[cfg(test)]
-mod tests;
 mod text_table;
 mod writing;
 

@@ -10,6 +10,3 @@ mod unread;
 
 pub use reading::{MAX_READS, read_reply, read_request};
 pub use unread::Unread;
-
-#[cfg(test)]
-mod tests;

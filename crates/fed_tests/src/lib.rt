@@ -4,7 +4,9 @@
 //! - `events`: ids and faults as texts
 //! - `transactions`: bodies of the greatest size, replies that are read, and names and faults as texts
 //! - `inboxes`: a body that is too large, and the reply for want of memory
-//! - `replies`: a store of replies
+//! - `replies`: stores of replies, and want of memory
+//! - `streams`: messages off readers that give little at a time, are interrupted, fail or end
+//! - `connections`: exchanges whose writer takes nothing or whose reader gives no reply
 //! - `requests`: requests on their whole way: signed, written, read and answered; copies, and replies that go out
 //! - `servers`: copies of lists and sets of servers
 //! - `rooms`: why no room begins, as texts
@@ -12,6 +14,8 @@
 //! - `runs`: runs over readers and writers that give and take little, fail, or never end
 #![tactic(auto)]
 
+#[cfg(test)]
+mod connections;
 #[cfg(test)]
 mod events;
 #[cfg(test)]
@@ -26,6 +30,8 @@ mod rooms;
 mod runs;
 #[cfg(test)]
 mod servers;
+#[cfg(test)]
+mod streams;
 #[cfg(test)]
 mod transactions;
 #[cfg(test)]

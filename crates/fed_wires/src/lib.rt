@@ -13,8 +13,6 @@ mod ends;
 mod numbering;
 mod received;
 mod rule;
-#[cfg(test)]
-mod tests;
 
 pub use board::{Board, Seat};
 pub use ends::{ReceiveEnd, ReceivePass, SendEnd, SendPass, wire};

@@ -1,0 +1,5 @@
+use Rattle.std.proofs.Common.{◌≡◌}
+use Rattle.fed_hub_part_tests.proofs.wires.load_all.Given as goal
+
+abbrev pub invariant-loop : goal.invariant-loop
+invariant-loop l = l.reader.board ≡ l.board.id
