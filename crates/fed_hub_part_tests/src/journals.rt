@@ -6,7 +6,7 @@ ghost use Rattle.fed_journal.specs.Edu.{edu_fault_of};
 ghost use Rattle.fed_journal.specs.declared.parcel.Load.TheVariants.{Edu};
 
 use fed_dest::{ServerIndex, ServerSet};
-use fed_hub_state::{ClientToken, Naming, SendingJournal, Unplaced, sections};
+use fed_hub_state::{ClientToken, InPlace, Naming, SendingJournal, Unplaced, sections};
 use fed_journal::{Load, Parcel, edu_fault};
 use fed_json::{Json, read};
 use fed_wires::{ReceiveEnd, Received, SendEnd, wire};
