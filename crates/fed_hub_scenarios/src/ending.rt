@@ -1,17 +1,16 @@
 // How a hub ends, when all that its threads are there for is done in one thread.
 ghost use Rattle.std.specs.Prelude.{◌≡◌, length};
 
-use crate::calls;
-use crate::carriers::{Answering, Clock};
-use crate::requests::{B, messages, transaction};
-use crate::setups::{PAIR, ROOM, Scenario, beginning, draft, json, run, setup};
-use crate::storing::serve;
 use fed_dest::{ServerIndex, ServerSet};
 use fed_event::StandIn;
 use fed_hub::{
     ClientToken, FaultCount, FinishFault, Hub, KeptRoom, Naming, Opened, Ran, Report, Served,
     ServingNaming, Tokens,
 };
+use fed_hub_fixtures::calls;
+use fed_hub_fixtures::carriers::{Answering, Clock};
+use fed_hub_fixtures::requests::{B, messages, transaction};
+use fed_hub_fixtures::setups::{PAIR, ROOM, Scenario, beginning, draft, json, run, setup};
 use fed_room_contract::Input;
 use std::alloc::Global;
 use std::marker::Brand;
@@ -77,7 +76,7 @@ fn answer<N: Naming + ServingNaming, R: Wait>(
         let Some(request) = left.next() else {
             return false;
         };
-        if serve(rt, alloc, hub, token, request) != Served::Answered(200) {
+        if calls::serve(rt, alloc, hub, token, request) != Served::Answered(200) {
             return false;
         }
     }

@@ -1,14 +1,14 @@
 // What a hub refuses, one after another.
 ghost use Rattle.std.specs.Prelude.{◌≡◌, length};
 
-use crate::calls;
-use crate::setups::{ROOM, Scenario, draft, json, run, setup};
 use fed_dest::{ServerIndex, ServerSet};
 use fed_event::StandIn;
 use fed_hub::{
     ClientToken, CloseFault, Collected, EduFault, Hub, Naming, Opened, SendFault, SenderToken,
     ServingNaming, Tokens,
 };
+use fed_hub_fixtures::calls;
+use fed_hub_fixtures::setups::{ROOM, Scenario, draft, json, run, setup};
 use fed_json::{Json, canonical, read_within};
 use std::alloc::Global;
 use std::marker::Brand;

@@ -4,15 +4,15 @@ ghost use Rattle.fed_hub.specs.Named.{AreNamesOf};
 ghost use Rattle.fed_hub.specs.Setup.{ids_of};
 ghost use Rattle.fed_keys.specs.StandIn.{stand_in_checks};
 
-use crate::calls;
-use crate::carriers::{Answering, Clock, Failing};
-use crate::setups::{ROOM, Scenario, draft, run, setup};
 use fed_dest::ServerIndex;
 use fed_event::StandIn;
 use fed_hub::{
     ClientToken, FaultCount, Hub, Naming, Opened, Ran, Seat, SenderToken, ServingNaming, Setup,
     Tokens,
 };
+use fed_hub_fixtures::calls;
+use fed_hub_fixtures::carriers::{Answering, Clock, Failing};
+use fed_hub_fixtures::setups::{ROOM, Scenario, draft, run, setup};
 use std::alloc::Global;
 use std::marker::Brand;
 use std::sync::Wait;

@@ -1,11 +1,11 @@
 // A hub that serves: what it takes is stored in its room, also what came before what it names.
 ghost use Rattle.std.specs.Prelude.{◌≡◌, length};
 
-use crate::calls;
-use crate::requests::{B, messages, transaction};
-use crate::setups::{PAIR, Scenario, run, setup};
 use fed_event::StandIn;
 use fed_hub::{Hub, Naming, Opened, Ran, ServeToken, Served, ServingNaming, Tokens};
+use fed_hub_fixtures::calls;
+use fed_hub_fixtures::requests::{B, messages, transaction};
+use fed_hub_fixtures::setups::{PAIR, Scenario, run, setup};
 use fed_room_contract::RoomEngine;
 use std::alloc::Global;
 use std::marker::Brand;
@@ -19,19 +19,6 @@ pub struct Stored {
     pub before: bool,
     pub ran: [Ran; 2],
     pub after: bool,
-}
-
-/// What becomes of a request.
-pub(crate) fn serve<N: Naming + ServingNaming, R: Wait>(
-    rt: &R,
-    alloc: Global,
-    hub: &Hub<N, StandIn>,
-    token: &mut ServeToken<N>,
-    request: &[u8],
-) -> Served {
-    let mut reader = request;
-    let mut written = Vec::new(alloc);
-    calls::serve_one(rt, alloc, hub, token, &mut reader, &mut written)
 }
 
 // Whether events are stored in the room of a pair.
@@ -83,8 +70,8 @@ impl Storing {
         let (serving, others) = tokens.servers.split_first_mut()?;
         let other = others.first_mut()?;
         let served = [
-            serve(rt, alloc, hub, serving, &self.requests[1]),
-            serve(rt, alloc, hub, other, &self.requests[0]),
+            calls::serve(rt, alloc, hub, serving, &self.requests[1]),
+            calls::serve(rt, alloc, hub, other, &self.requests[0]),
         ];
         let before = are_stored(rt, hub, &self.ids)?;
         hub.shut_down(rt).ok()?;

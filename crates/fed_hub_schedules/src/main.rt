@@ -3,7 +3,10 @@
 //! it stops with status 1 at one that does not.
 #![tactic(auto)]
 
-use fed_hub_scenarios::run_schedule;
+mod fickle;
+mod schedules;
+
+use crate::schedules::run_schedule;
 use std::alloc::Global;
 use std::io;
 use std::process::ExitCode;

@@ -1,8 +1,9 @@
 // What comes of each scenario.
 use fed_hub::{Collected, EduFault, FinishFault, Ran, SendFault, Served};
+use fed_hub_crowds::{Crowd, SentByClients, ServedMeanwhile, clients_send, fill_a_wire};
 use fed_hub_scenarios::{
-    AtOnce, Crowd, Refused, Retried, SentByClients, ServedMeanwhile, Stored, clients_send, end,
-    end_too_early, fill_a_wire, offer_edus, refuse, retry, run_schedule, send_at_once, store,
+    AtOnce, Refused, Retried, Stored, end, end_too_early, offer_edus, refuse, retry, send_at_once,
+    store,
 };
 use fed_room_contract::Rule;
 use std::test::*;
@@ -168,17 +169,5 @@ fn a_hub_that_does_not_end_stays_as_it_is(rt: HostRuntime) -> Result<(), Fail> {
         FinishFault::Unequal,
     ];
     assert!(rt; faults.as_slice() == wanted.as_slice());
-    Ok(())
-}
-
-#[test]
-fn a_schedule_ends(rt: HostRuntime) -> Result<(), Fail> {
-    let told = run_schedule(&rt, rt.alloc(), 7).ok_or("memory")?;
-    let Ok(told) = told else {
-        return Err(Fail::from("a hub that ends"));
-    };
-    assert_eq!(rt; (told.events, told.edus), (48, 48));
-    assert_eq!(rt; told.taken, [20, 20, 20]);
-    assert_eq!(rt; told.delivered.as_slice(), [0, 48, 48, 48].as_slice());
     Ok(())
 }

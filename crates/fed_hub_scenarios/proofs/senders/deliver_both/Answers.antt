@@ -10,8 +10,8 @@ use Rattle.fed_keys.specs.contracts.stand_in.StandInKeys.TheImpl as signs
 use Rattle.fed_keys.proofs.stand_in.StandIn.TheSendSync as stand_in
 use Rattle.fed_hub.specs.contracts.hub.Hub as hub
 use Rattle.fed_hub.specs.contracts.tokens.SenderToken as token
-use Rattle.fed_hub_scenarios.specs.contracts.carriers.Answering as answering_type
-use Rattle.fed_hub_scenarios.proofs.carriers.Answering.TheSendSync as answering
+use Rattle.fed_hub_fixtures.specs.contracts.carriers.Answering as answering_type
+use Rattle.fed_hub_fixtures.proofs.carriers.Answering.TheSendSync as answering
 use Rattle.fed_hub.proofs.Crossing.{captures_send, hub_sync, sender_token_send}
 use Rattle.fed_hub_scenarios.proofs.senders.deliver_both.Goals as goal
 
