@@ -5,17 +5,16 @@
 #
 #     bench/reading.sh [RUNS [PEER]]
 #
-# PEER is a program that does the same work for `PEER http FILE TIMES PIECE`, to compare with. Prints the processor time for one request, of
-# the median of the runs, less what a run without a request takes, and the peak memory of a run, the text of the request among it. Both
-# programs run in turn, and each run reads 8,000,000 bytes so many times, in requests of either size. Of the long body in large pieces nearly all
-# of the time is one copy of it, whose pace hangs on where its bytes lie; so what large pieces take is the mean for heads of eight lengths.
-# Figures of two machines can't be compared.
+# PEER is a program that does the same work for `PEER http FILE TIMES PIECE`, to compare with. Prints the least processor time for one request,
+# less what a run without a request takes, and the peak memory of a run, the text of the request among it. Both programs run in turn, so often
+# that each meets a moment at which the machine does nothing else. Of the long body in large pieces nearly all of the time is one copy of it, whose
+# pace hangs on where its bytes lie; so what large pieces take is the mean for heads of eight lengths. Figures of two machines can't be compared.
 set -e
 here=$(cd "$(dirname "$0")" && pwd)
 program=$here/../crates/fed_bench/out/fed_bench
 [ -x "$program" ] || { echo "no $program: run 'rt run < stdin' in crates/fed_bench first" >&2; exit 2; }
-python3 - "$program" "${1:-3}" "${2:-}" <<'PY'
-import os, statistics, subprocess, sys, tempfile
+python3 - "$program" "${1:-9}" "${2:-}" <<'PY'
+import os, subprocess, sys, tempfile
 
 program, runs, peer = sys.argv[1], int(sys.argv[2]), sys.argv[3]
 SIZES, CHUNK, SHIFT = (64_000, 8_000_000), 65_536, 525
@@ -56,20 +55,20 @@ def theirs(coding, size, field, piece, times):
 
 # The time for one request, and the peak memory, of so many, for each of these readers.
 def costs(readers, coding, size, piece, times):
-    fields = [k * SHIFT for k in range(8)] if piece >= 4_096 else [0]
+    fields = [length * SHIFT for length in range(8)] if piece >= 4_096 else [0]
     took, peak = [0.0] * len(readers), [0.0] * len(readers)
     for field in fields:
         rounds = [[(read(coding, size, field, piece, times), read(coding, size, field, piece, 0)) for read in readers] for _ in range(runs)]
-        for k in range(len(readers)):
-            took[k] += statistics.median(some[0] - none[0] for some, none in (round[k] for round in rounds))
-            peak[k] = max([peak[k]] + [round[k][0][1] for round in rounds])
+        for k, pairs in enumerate(zip(*rounds)):
+            took[k] += min(some[0] for some, _ in pairs) - min(none[0] for _, none in pairs)
+            peak[k] = max([peak[k]] + [some[1] for some, _ in pairs])
     return [(one / times / len(fields), memory) for one, memory in zip(took, peak)]
 
 
 print("coding   bytes     piece     a request      memory" + ("      the peer's                  ratios" if peer else ""))
 for size in SIZES:
     for coding in ("whole", "chunked"):
-        for piece, repeats in ((65_536, 40), (4_096, 40), (256, 20), (16, 10), (1, 2)):
+        for piece, repeats in ((65_536, 80), (4_096, 80), (256, 40), (16, 10), (1, 1)):
             times = repeats * SIZES[-1] // size
             (one, memory), *rest = costs([ours, theirs] if peer else [ours], coding, size, piece, times)
             row = f"{coding:<8} {size:<9} {piece:<7} {one * 1e6:11.1f} us {memory:6.1f} MiB"

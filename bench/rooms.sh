@@ -6,13 +6,14 @@
 #     bench/rooms.sh [RUNS]
 #
 # Prints for each the least time for an event, of receiving alone, and what the peak memory grows by for an event, the event itself among it;
-# and then how many times those of a room of 2 members they are. What a run of 1,000 messages takes is less than the script's own memory, which
-# counts in the peak. Figures of two machines can't be compared.
+# and then how many times those of a room of 2 members they are. Both rooms are run in turn, so often that each meets a moment at which the
+# machine does nothing else. What a run of 1,000 messages takes is less than the script's own memory, which counts in the peak. Figures of two
+# machines can't be compared.
 set -e
 here=$(cd "$(dirname "$0")" && pwd)
 program=$here/../crates/fed_bench/out/fed_bench
 [ -x "$program" ] || { echo "no $program: run 'rt run < stdin' in crates/fed_bench first" >&2; exit 2; }
-python3 - "$program" "${1:-3}" <<'PY'
+python3 - "$program" "${1:-15}" <<'PY'
 import os, subprocess, sys, tempfile
 
 program, runs = sys.argv[1], int(sys.argv[2])
@@ -40,12 +41,10 @@ def ratio(one, other):
 print("fork  messages     2 members              1,000 members           ratios")
 for fork in (0, 10):
     for messages in (1_000, 10_000, 50_000):
-        cells = []
-        for members in (2, 1_000):
-            empty = min(told(members, 0, 0)[1] for _ in range(runs))
-            rows = [told(members, messages, fork) for _ in range(runs)]
-            cells.append((min(time for time, _ in rows) / messages, (min(peak for _, peak in rows) - empty) / messages))
-        (time, memory), (longer, larger) = cells
+        empty = [min(told(members, 0, 0)[1] for _ in range(3)) for members in (2, 1_000)]
+        rounds = [[told(members, messages, fork) for members in (2, 1_000)] for _ in range(runs)]
+        time, longer = (min(took for took, _ in rows) / messages for rows in zip(*rounds))
+        memory, larger = ((min(peak for _, peak in rows) - least) / messages for rows, least in zip(zip(*rounds), empty))
         figures = f"{time:8.2f} us {memory:7.0f} B {longer:10.2f} us {larger:7.0f} B"
         print(f"{fork:<5} {messages:<9} {figures} {ratio(longer, time)} {ratio(larger, memory)}", flush=True)
 for extremities in (100, 1_000):
