@@ -216,6 +216,20 @@ TURNED = [
     ("apply b !r:a", "accepted and 1 more"),
 ]
 
+# A thousand events in one line: each tenth one sets the topic, and by the 500th, which still goes to c, the user of c is sent away.
+AWAY = 'send a !r:a @u:a m.room.member =@w:c {"membership":"leave"}'
+SAID = [AWAY if number == 500 else f"send a !r:a @u:a {'m.x -' if number % 10 else 'm.room.topic ='} {{}}" for number in range(1, 1001)]
+IN_LINE = [
+    ("servers a b c", "ok"),
+    ("room !r:a @u:a @v:b @w:c", "ok"),
+    *((line, f"sent {number} to {'b,c' if number <= 500 else 'b'}") for number, line in enumerate(SAID, 1)),
+    ("calm 20", "calm now 0"),
+    ("show b a", "taken 1000 0 acked 1000 0"),
+    ("show c a", "taken 500 0 acked 500 0"),
+    ("send b !r:a @v:b m.x - {}", "sent 1 to a"),
+    ("send c !r:a @w:c m.x - {}", "refused rule 5"),
+]
+
 # What a script begins with, and lines that are wrong behind it.
 BEGUN = "servers a b\nroom !r:a @u:a @v:b\n"
 WRONG_LINES = [
@@ -350,6 +364,7 @@ def cases():
         scripted(RETRIED),
         scripted(REFUSED),
         scripted(TURNED),
+        scripted(IN_LINE),
         (["sim"], "\n# a comment\nservers a b\n\ntick 5", "ok\nnow 5\n", "", 0),
         (["sim"], "", "", "fed: line 1: wrong words\n", 1),
         (["sim"], "\n# a comment\ntick 1\n", "", "fed: line 3: wrong words\n", 1),
