@@ -1,7 +1,7 @@
 #!/bin/sh
 # Measures what reading a request costs whose body has 64,000 bytes, as a transaction of 50 events may have, and one of 8,000,000: the built
 # program crates/fed_bench/out/fed_bench (after `rt run < stdin` there) reads one whose body comes by its length and one that comes in chunks of
-# 65,536 bytes, from pieces of 65,536, 4,096, 256, 16 and 1 bytes.
+# 65,536 bytes, from pieces of 65,536, 4,096, 256, 16 and 1 bytes; and then one whose head has 16,000 bytes, and its body none.
 #
 #     bench/reading.sh [RUNS [PEER]]
 #
@@ -17,7 +17,7 @@ python3 - "$program" "${1:-9}" "${2:-}" <<'PY'
 import os, subprocess, sys, tempfile
 
 program, runs, peer = sys.argv[1], int(sys.argv[2]), sys.argv[3]
-SIZES, CHUNK, SHIFT = (64_000, 8_000_000), 65_536, 525
+SIZES, CHUNK, SHIFT, LONG = (64_000, 8_000_000), 65_536, 525, 16_000
 
 
 # The text is never held here as a whole: a process that is started counts what its parent holds as its own peak.
@@ -54,8 +54,7 @@ def theirs(coding, size, field, piece, times):
 
 
 # The time for one request, and the peak memory, of so many, for each of these readers.
-def costs(readers, coding, size, piece, times):
-    fields = [length * SHIFT for length in range(8)] if piece >= 4_096 else [0]
+def costs(readers, coding, size, fields, piece, times):
     took, peak = [0.0] * len(readers), [0.0] * len(readers)
     for field in fields:
         rounds = [[(read(coding, size, field, piece, times), read(coding, size, field, piece, 0)) for read in readers] for _ in range(runs)]
@@ -65,14 +64,21 @@ def costs(readers, coding, size, piece, times):
     return [(one / times / len(fields), memory) for one, memory in zip(took, peak)]
 
 
+def show(coding, size, fields, piece, times):
+    (one, memory), *rest = costs([ours, theirs] if peer else [ours], coding, size, fields, piece, times)
+    row = f"{coding:<8} {size:<9} {piece:<7} {one * 1e6:11.1f} us {memory:6.1f} MiB"
+    for other, used in rest:
+        row += f" {other * 1e6:11.1f} us {used:6.1f} MiB {one / other:7.2f} {memory / used:7.2f}"
+    print(row, flush=True)
+
+
 print("coding   bytes     piece     a request      memory" + ("      the peer's                  ratios" if peer else ""))
 for size in SIZES:
     for coding in ("whole", "chunked"):
         for piece, repeats in ((65_536, 80), (4_096, 80), (256, 40), (16, 10), (1, 1)):
-            times = repeats * SIZES[-1] // size
-            (one, memory), *rest = costs([ours, theirs] if peer else [ours], coding, size, piece, times)
-            row = f"{coding:<8} {size:<9} {piece:<7} {one * 1e6:11.1f} us {memory:6.1f} MiB"
-            for other, used in rest:
-                row += f" {other * 1e6:11.1f} us {used:6.1f} MiB {one / other:7.2f} {memory / used:7.2f}"
-            print(row, flush=True)
+            fields = [length * SHIFT for length in range(8)] if piece >= 4_096 else [0]
+            show(coding, size, fields, piece, repeats * SIZES[-1] // size)
+print("a long head")
+for piece, times in ((65_536, 8_000), (256, 400), (16, 40), (1, 4)):
+    show("whole", 0, [LONG], piece, times)
 PY
