@@ -5,10 +5,11 @@
 #
 #     bench/reading.sh [RUNS [PEER]]
 #
-# PEER is a program that does the same work for `PEER http FILE TIMES PIECE`, to compare with. Prints the least processor time for one request,
-# less what a run without a request takes, and the peak memory of a run, the text of the request among it. Both programs run in turn, so often
-# that each meets a moment at which the machine does nothing else. Of the long body in large pieces nearly all of the time is one copy of it, whose
-# pace hangs on where its bytes lie; so what large pieces take is the mean for heads of eight lengths. Figures of two machines can't be compared.
+# PEER is a program that does the same work for `PEER http FILE TIMES PIECE`, to compare with. Prints the least processor time for one
+# request, less what a run without a request takes, and the peak memory of a run, the text of the request among it. Both programs run in turn:
+# on a machine that does other work too, the more runs, the likelier that each meets a quiet moment. Of the long body in large pieces nearly
+# all of the time is one copy of it, whose pace hangs on where its bytes lie; so what large pieces take is the mean for heads of eight
+# lengths. Figures of two machines can't be compared.
 set -e
 here=$(cd "$(dirname "$0")" && pwd)
 program=$here/../crates/fed_bench/out/fed_bench

@@ -6,9 +6,9 @@
 #     bench/rooms.sh [RUNS]
 #
 # Prints for each the least time for an event, of receiving alone, and what the peak memory grows by for an event, the event itself among it;
-# and then how many times those of a room of 2 members they are. Both rooms are run in turn, so often that each meets a moment at which the
-# machine does nothing else. What a run of 1,000 messages takes is less than the script's own memory, which counts in the peak. Figures of two
-# machines can't be compared.
+# and then how many times those of a room of 2 members they are. Both rooms are run in turn: on a machine that does other work too, the more
+# runs, the likelier that each room meets a quiet moment. What a run of 1,000 messages takes is less than the script's own memory, which
+# counts in the peak. Figures of two machines can't be compared.
 set -e
 here=$(cd "$(dirname "$0")" && pwd)
 program=$here/../crates/fed_bench/out/fed_bench
