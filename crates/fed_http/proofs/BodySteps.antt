@@ -1,13 +1,16 @@
 -- The bytes of a body, as they come.
-use Rattle.std.proofs.Common.{arith, ◌≡◌, ◌≢◌, ℕ, ◌+◌, ◌-◌, ◌<◌, ◌≤◌, List, [], ◌∷◌, ◌++◌, length, take, drop, get_or, refl, sym, ap, subst, ◌∙◌, append_assoc, append-nil, length-append}
+use Rattle.std.proofs.Common.{arith, ◌≡◌, ◌≢◌, ℕ, ◌+◌, ◌<◌, ◌≤◌, List, [], ◌∷◌, ◌++◌, length, take, get_or, refl, sym, ap, subst, ◌∙◌, append_assoc, append-nil, length-append}
 use Rattle.httparse.specs.Grammar.{print_chunk_line, chunk_size}
 use Rattle.httparse.proofs.PieceLemmas.{front-append}
-use Rattle.fed_http.specs.Limits.{max_head, max_body}
+use Rattle.fed_http.specs.Limits.{max_body}
 use Rattle.fed_http.specs.Head.{Head, request, reply, print_head, message_of}
-use Rattle.fed_http.specs.Body.{Chunk, IsChunk, print_chunk, print_chunks, chunk_data}
+use Rattle.fed_http.specs.Body.{Chunk, IsChunk, print_chunks, chunk_data}
 use Rattle.fed_http.specs.Faults.{NeverHasLineEnd, IsBadChunk, no_line_end}
 use Rattle.fed_http.specs.Waiting.{IsWaiting}
 use Rattle.fed_http.specs.Keeping.{Kept, with_body, IsInBody, KeepsChunks, IsInLine, IsInChunk, HasEnded}
+use Rattle.fed_http.specs.TextPlaces.{IsLinePlace}
+use Rattle.fed_http.specs.declared.text_place.TextPlace.TheVariants.{Size}
+use Rattle.fed_http.proofs.PlaceStarts.{line_begins}
 use Rattle.fed_http.specs.declared.framing.Framing.TheVariants.{Fixed, Chunked}
 use Rattle.fed_http.specs.declared.message.Kind.{Kind}
 use Rattle.fed_http.proofs.Stays.{reaches_on, chunks_on, chunks_is}
@@ -97,9 +100,9 @@ return_on kind k j bytes x start head text body =
     grouped : (a b c : List ℕ) → (a ++ (b ++ [])) ++ c ≡ a ++ (b ++ c)
     grouped a b c = simp (append_assoc, append-nil)
 
-pub feed_on : (kind : Kind) (k j : Kept) (bytes : List ℕ) → IsInChunk kind k bytes 0 (13 ∷ []) → j.start ≡ k.start → j.head ≡ k.head → j.text ≡ take k.head k.text → j.body ≡ k.body
+pub feed_on : (kind : Kind) (k j : Kept) (bytes : List ℕ) → IsInChunk kind k bytes 0 (13 ∷ []) → j.start ≡ k.start → j.head ≡ k.head → j.text ≡ take k.head k.text → j.body ≡ k.body → j.at ≡ Size 0
     → IsInLine kind j (bytes ++ 10 ∷ []) × IsWaiting kind (bytes ++ 10 ∷ [])
-feed_on kind k j bytes x start head cut body =
+feed_on kind k j bytes x start head cut body begins =
     let printed = print_chunk_line x.line in
     let cs = x.keeps.chunks in
     let c : Chunk = record { line = x.line; bytes = x.content } in
@@ -115,7 +118,7 @@ feed_on kind k j bytes x start head cut body =
       chunks = cs ++ c ∷ [];
       reads = reads;
     } in
-    (record { line = []; keeps = keeps; body = body ∙ x.body ∙ sym (data_pushed cs c); few = empty_lacks_line.few; none = empty_lacks_line.none }, line_waits kind j (bytes ++ 10 ∷ []) [] keeps empty_lacks_line)
+    (record { line = []; keeps = keeps; body = body ∙ x.body ∙ sym (data_pushed cs c); few = empty_lacks_line.few; none = empty_lacks_line.none; at = subst (IsLinePlace []) (sym begins) line_begins }, line_waits kind j (bytes ++ 10 ∷ []) [] keeps empty_lacks_line)
   where
     grouped : (a b : List ℕ) → (a ++ (b ++ 13 ∷ [])) ++ 10 ∷ [] ≡ ((a ++ b) ++ 13 ∷ 10 ∷ []) ++ []
     grouped a b = simp (append_assoc, append-nil)

@@ -8,6 +8,7 @@ use Rattle.httparse.specs.Grammar.{print_chunk_line}
 use Rattle.fed_http.specs.Limits.{max_head, max_held}
 use Rattle.fed_http.specs.Head.{Head, request, reply, print_head}
 use Rattle.fed_http.specs.Text.{IsText, HasNoText}
+use Rattle.fed_http.specs.TextPlaces.{IsHeadPlace}
 use Rattle.fed_http.specs.Faults.{IsFault}
 use Rattle.fed_http.specs.Keeping.{Kept, IsKept, IsKeptAt, with_body, KeepsChunks, IsInHead, HasEnded}
 use Rattle.fed_http.specs.KeepingParts.{kept_of, Ends, StillWaits, TakeFails}
@@ -19,6 +20,7 @@ use Rattle.fed_http.specs.declared.message.Message.{Message}
 use Rattle.fed_http.specs.declared.place.Place.{Place}
 use Rattle.fed_http.specs.declared.place.Place.TheVariants.{InHead, InBody, InLine, InData, BehindData, BehindReturn, InTrailer, Ended}
 use Rattle.fed_http.specs.declared.state.State.{State}
+use Rattle.fed_http.specs.declared.text_place.TextPlace.TheVariants.{EmptyLines}
 use Rattle.fed_http.proofs.TextLemmas.{fault_has_no_text, waiting_has_no_text}
 use Rattle.fed_http.proofs.Verdicts.{one_fault}
 
@@ -41,12 +43,13 @@ abbrev pub fields : Kind → Kept → Bool → Reading
 fields kind kept failed = record { kind = kind; kept = kept; has_failed = failed }
 
 -- nothing is kept of nothing
-pub nothing_kept : (kind : Kind) (k : Kept) → k.text ≡ [] → k.body ≡ [] → IsInHead kind k []
-nothing_kept kind k text body = record {
+pub nothing_kept : (kind : Kind) (k : Kept) → k.at ≡ EmptyLines → k.text ≡ [] → k.body ≡ [] → IsInHead kind k []
+nothing_kept kind k at text body = record {
   text = text;
   body = body;
   few = omega arith;
   none = λ h rest reads. omega (arith, some_head h rest, ap length reads.whole);
+  at = subst (IsHeadPlace kind []) (sym at) ([], refl);
 }
 
 -- ---- a message

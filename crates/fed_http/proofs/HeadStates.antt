@@ -1,6 +1,6 @@
 -- What the bytes of a head leave of the state of a reader.
 use Rattle.std.proofs.Common.{arith, ◌≡◌, ℕ, ◌+◌, ◌-◌, ◌<◌, ◌≤◌, List, [], ◌∷◌, ◌++◌, length, take, drop, refl, sym, ap, subst, ◌∙◌, length-append}
-use Rattle.std.specs.Prelude.{min, vec_len, vec_capacity}
+use Rattle.std.specs.Prelude.{min, vec_len}
 use Rattle.std.proofs.lemmas.List.{take_all, length-take}
 use Rattle.std.proofs.Math.Seq.{take-append_seam}
 use Rattle.std.specs.Coded.{le_prop}
@@ -10,12 +10,15 @@ use Rattle.fed_http.specs.Head.{print_head}
 use Rattle.fed_http.specs.Faults.{IsFault}
 use Rattle.fed_http.specs.Waiting.{IsWaiting}
 use Rattle.fed_http.specs.Waiting as waiting
-use Rattle.fed_http.specs.Keeping.{Kept, IsKept, IsKeptAt, IsInHead}
+use Rattle.fed_http.specs.Keeping.{Kept, IsKept, IsInHead}
+use Rattle.fed_http.specs.TextPlaces.{IsHeadPlace, HeadGoesOnTo}
 use Rattle.fed_http.specs.KeepingParts.{kept_of, IsSoundFor, Begun, StillWaits, TakeFails, Opens, LacksHead}
 use Rattle.fed_http.specs.declared.fault.HttpFault.{HttpFault}
 use Rattle.fed_http.specs.declared.message.Kind.{Kind}
 use Rattle.fed_http.specs.declared.place.Place.TheVariants.{InHead}
 use Rattle.fed_http.specs.declared.state.State.{State}
+use Rattle.fed_http.specs.declared.text_place.TextPlace.{TextPlace}
+use Rattle.fed_http.proofs.PlaceStarts.{place_unfinished}
 use Rattle.fed_http.proofs.Windows.{fits_in}
 use Rattle.fed_http.proofs.HeadSteps.{head_beyond_sound, up_to_head}
 use Rattle.fed_http.proofs.Steps.{at_place, of_place}
@@ -48,27 +51,33 @@ head_begun kind s grown now piece taken len used at sound text within o used_is 
     }
 
 pub head_waits : (kind : Kind) (s now : State) (piece : List ℕ) (taken : ℕ) → s.place ≡ InHead → now.place ≡ InHead → now.text.items ≡ s.text.items ++ take taken piece → now.body.items ≡ s.body.items → taken ≡ min (length piece) (max_head - vec_len s.text)
-    → length s.text.items ≡ vec_len s.text → LacksHead kind now.text.items → StillWaits kind s now piece
-head_waits kind s now piece taken at here text body taken_is vec lacks =
+    → length s.text.items ≡ vec_len s.text → length now.text.items < max_head → (IsHeadPlace kind s.text.items s.at → LacksHead kind now.text.items) → (IsHeadPlace kind s.text.items s.at → IsHeadPlace kind now.text.items now.at) → StillWaits kind s now piece
+head_waits kind s now piece taken at here text body taken_is vec few lacks on =
     let within : taken ≤ length piece = omega (arith, taken_is) in
     let count : length now.text.items ≡ length s.text.items + taken = omega (arith, ap length text, length-append s.text.items (take taken piece), length-take taken piece, within) in
-    let whole : take taken piece ≡ piece = take_all taken piece (omega (arith, taken_is, count, lacks.few, vec)) in
+    let whole : take taken piece ≡ piece = take_all taken piece (omega (arith, taken_is, count, few, vec)) in
     let text_is : (bytes : List ℕ) → IsKept kind (kept_of s) bytes → now.text.items ≡ bytes ++ piece =
     (λ bytes x.
     let y : IsInHead kind (kept_of s) bytes = at_place InHead kind (kept_of s) bytes at x in
     text ∙ (λ i. y.text i ++ whole i)) in
+    let place : (bytes : List ℕ) → IsKept kind (kept_of s) bytes → IsHeadPlace kind s.text.items s.at =
+    (λ bytes x.
+    let y : IsInHead kind (kept_of s) bytes = at_place InHead kind (kept_of s) bytes at x in
+    subst (λ v. IsHeadPlace kind v s.at) (sym y.text) y.at) in
     record {
       kept = λ bytes x.
           let y : IsInHead kind (kept_of s) bytes = at_place InHead kind (kept_of s) bytes at x in
           let same = text_is bytes x in
+          let lack : LacksHead kind (bytes ++ piece) = subst (LacksHead kind) same (lacks (place bytes x)) in
           let next : IsInHead kind (kept_of now) (bytes ++ piece) = record {
             text = same;
             body = body ∙ y.body;
-            few = subst (λ v. length v < max_head) same lacks.few;
-            none = (subst (LacksHead kind) same lacks).unfinished.none;
+            few = lack.few;
+            none = lack.unfinished.none;
+            at = subst (λ v. IsHeadPlace kind v now.at) same (on (place bytes x));
           } in
           of_place InHead kind (kept_of now) (bytes ++ piece) here next;
-      waits = λ bytes x. let here = subst (LacksHead kind) (text_is bytes x) lacks in waiting.head here.few here.unfinished;
+      waits = λ bytes x. let lack = subst (LacksHead kind) (text_is bytes x) (lacks (place bytes x)) in waiting.head lack.few lack.unfinished;
       unended = λ e. let clash = sym here ∙ e in cc;
     }
 
@@ -83,6 +92,14 @@ head_fails kind s now piece all taken fault at text told same = record {
 -- the text as it was
 pub restored : (held more all cut : List ℕ) (n : ℕ) → all ≡ held ++ more → n ≡ length held → cut ≡ take n all → cut ≡ held
 restored held more all cut n is len taken = taken ∙ ap (λ m. take m all) len ∙ ap (take (length held)) is ∙ take-append_seam held more
+
+-- the place behind the bytes that were taken
+pub placed_behind : (kind : Kind) (held more all : List ℕ) (n : ℕ) (p q : TextPlace) → all ≡ held ++ more → n ≡ length held → (IsHeadPlace kind (take n all) p → IsHeadPlace kind all q) → IsHeadPlace kind held p → IsHeadPlace kind all q
+placed_behind kind held more all n p q is len on at = on (subst (λ v. IsHeadPlace kind v p) (sym (restored held more all (take n all) n is len refl)) at)
+
+-- where the place tells that no head is whole
+pub head_goes : (kind : Kind) (held more all : List ℕ) (n : ℕ) (p q : TextPlace) → all ≡ held ++ more → n ≡ length held → HeadGoesOnTo kind p n all q → IsHeadPlace kind held p → LacksHead kind all
+head_goes kind held more all n p q is len g at = record { few = g.short; unfinished = place_unfinished kind all q (placed_behind kind held more all n p q is len g.on at) g.known }
 
 -- no body is kept yet
 pub head_body : (kind : Kind) (k : Kept) → k.place ≡ InHead → IsSoundFor kind k → k.body ≡ []

@@ -1,18 +1,15 @@
 -- The head, as its bytes come.
-use Rattle.std.proofs.Common.{arith, ◌≡◌, ◌≢◌, ℕ, ◌+◌, ◌-◌, ◌<◌, ◌≤◌, List, [], ◌++◌, length, take, drop, refl, sym, ap, subst, ◌∙◌, append-nil, length-append, Option, Some, inl, inr}
-use Rattle.std.specs.Prelude.{min, vec_len, vec_capacity}
+use Rattle.std.proofs.Common.{arith, ◌≡◌, ◌≢◌, ℕ, ◌+◌, ◌-◌, ◌≤◌, List, [], ◌++◌, length, take, drop, refl, sym, ap, subst, ◌∙◌, append-nil, length-append, Some, inl, inr}
+use Rattle.std.specs.Prelude.{vec_len, vec_capacity}
 use Rattle.std.proofs.lemmas.Bool.{cases_lt}
-use Rattle.std.proofs.lemmas.List.{take-append-drop}
 use Rattle.std.proofs.Math.Seq.{take-append-add}
 use Rattle.std.specs.Coded.{le_prop}
 use Rattle.std.proofs.Math.Logic.{∥∥₁_elim}
 use Rattle.fed_http.specs.Limits.{max_head, max_body}
 use Rattle.fed_http.specs.Head.{Head, ReadsHead, HasNoHead, print_head, head_framing, message_of}
 use Rattle.fed_http.specs.Faults.{IsFault, large_length}
-use Rattle.fed_http.specs.Waiting.{IsWaiting}
-use Rattle.fed_http.specs.Waiting as waiting
 use Rattle.fed_http.specs.Keeping.{Kept, IsKept, IsKeptAt, with_body, KeepsHead, IsInHead}
-use Rattle.fed_http.specs.KeepingParts.{IsSoundFor, HasRoomFor, HasRoomAt, IsOpeningAt, IsPlaceBehind, IsLargeFraming, LacksHead}
+use Rattle.fed_http.specs.KeepingParts.{IsSoundFor, HasRoomFor, HasRoomAt, IsOpeningAt, IsPlaceBehind, IsLargeFraming}
 use Rattle.fed_http.specs.declared.fault.HttpFault.{HttpFault}
 use Rattle.fed_http.specs.declared.fault.HttpFault.TheVariants.{TooLarge}
 use Rattle.fed_http.specs.declared.framing.Framing.{Framing}
@@ -22,6 +19,9 @@ use Rattle.fed_http.specs.declared.opening.Opening.{Opening}
 use Rattle.fed_http.specs.declared.place.Place.{Place}
 use Rattle.fed_http.specs.declared.place.Place.TheVariants.{InHead, InBody, InLine, InData, BehindData, BehindReturn, InTrailer, Ended}
 use Rattle.fed_http.specs.declared.state.State.{State}
+use Rattle.fed_http.specs.declared.text_place.TextPlace.TheVariants.{Size}
+use Rattle.fed_http.specs.TextPlaces.{IsLinePlace}
+use Rattle.fed_http.proofs.PlaceStarts.{line_begins}
 use Rattle.fed_http.proofs.Windows.{front_of}
 use Rattle.fed_http.proofs.LineCounts.{front_in}
 use Rattle.fed_http.proofs.Keeping.{take_first, empty_lacks_line}
@@ -30,8 +30,8 @@ use Rattle.fed_http.proofs.BodySteps.{with_body_is}
 -- ---- what is kept behind a head
 
 pub opening_kept : (kind : Kind) (k : Kept) (bytes : List ℕ) (found : Opening) (place : Place) → IsOpeningAt kind bytes found → IsPlaceBehind found.framing place → k.place ≡ place → k.head ≡ found.len → k.text ≡ take found.len bytes
-    → k.start ≡ Some found.message → k.body ≡ [] → IsKept kind k (take found.len bytes)
-opening_kept kind k bytes found place x behind at head text start body =
+    → k.start ≡ Some found.message → k.body ≡ [] → k.at ≡ Size 0 → IsKept kind k (take found.len bytes)
+opening_kept kind k bytes found place x behind at head text start body begins =
     let P : Place → Type 0 = λ p. IsKeptAt p kind k (take found.len bytes) in
     subst P (sym at) (by found.framing place x.framed behind)
   where
@@ -109,6 +109,7 @@ opening_kept kind k bytes found place x behind at head text start body =
       body = body;
       few = empty_lacks_line.few;
       none = empty_lacks_line.none;
+      at = subst (IsLinePlace []) (sym begins) line_begins;
     })
 
 pub place_begun : (f : Framing) (p : Place) → IsPlaceBehind f p → p ≢ InHead

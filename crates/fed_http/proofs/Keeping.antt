@@ -1,22 +1,20 @@
 -- What is kept of bytes, and what it says of them.
-use Rattle.std.proofs.Common.{arith, ◌≡◌, ◌≢◌, ℕ, ◌+◌, ◌-◌, ◌<◌, ◌≤◌, List, [], ◌∷◌, ◌++◌, length, take, drop, replicate, refl, sym, ap, subst, ◌∙◌, append_assoc, append-nil, length-append, Some, None, inl, inr}
-use Rattle.std.proofs.lemmas.Bool.{cases_lt}
+use Rattle.std.proofs.Common.{arith, ◌≡◌, ℕ, ◌+◌, ◌-◌, ◌<◌, ◌≤◌, List, [], ◌∷◌, ◌++◌, length, take, drop, replicate, refl, sym, ap, ◌∙◌, append_assoc, append-nil, length-append, None}
 use Rattle.std.proofs.lemmas.List.{take-append-drop, take-append-le, length-replicate}
 use Rattle.std.proofs.lemmas.List.Elements.{All-nil, All-cons}
 use Rattle.std.specs.Prelude.{IsTrue}
 use Rattle.std.specs.Char.{is_ascii_hexdigit}
 use Rattle.httparse.specs.Ascii.{crlf_bytes}
-use Rattle.httparse.specs.Grammar.{ChunkLine, IsChunkLine, print_chunk_line, print_extension, chunk_size, HasNoChunkLine, MayBecomeChunkLine, Field, IsField, LineEnd, lf, print_section, HasNoSection, is_ows}
+use Rattle.httparse.specs.Grammar.{ChunkLine, IsChunkLine, print_chunk_line, print_extension, IsField, lf, print_section, HasNoSection, is_ows}
 use Rattle.httparse.proofs.PieceLemmas.{front-append}
-use Rattle.fed_http.specs.Limits.{max_head, max_body}
-use Rattle.fed_http.specs.Head.{Head, print_head}
-use Rattle.fed_http.specs.Body.{Chunk, IsChunk, IsShortLine, IsLastLine, print_chunk, chunk_data}
-use Rattle.fed_http.specs.Unfinished.{IsUnfinishedTrailer, trailer_front}
-use Rattle.fed_http.specs.Faults.{ReachesBody, ReadsChunks, ReachesTrailer}
+use Rattle.fed_http.specs.Limits.{max_body}
+use Rattle.fed_http.specs.Head.{print_head}
+use Rattle.fed_http.specs.Body.{Chunk, IsChunk, IsLastLine, print_chunk, chunk_data}
+use Rattle.fed_http.specs.Faults.{ReachesBody, ReachesTrailer}
 use Rattle.fed_http.specs.ChunkParts.{LacksLine, LacksTrailer}
 use Rattle.fed_http.specs.Waiting.{IsWaiting}
 use Rattle.fed_http.specs.Waiting as waiting
-use Rattle.fed_http.specs.Keeping.{Kept, KeepsHead, IsInBody, KeepsChunks, IsInLine, IsInChunk, IsInTrailer}
+use Rattle.fed_http.specs.Keeping.{Kept, KeepsHead, IsInBody, KeepsChunks, IsInChunk}
 use Rattle.fed_http.specs.declared.framing.Framing.{Framing}
 use Rattle.fed_http.specs.declared.framing.Framing.TheVariants.{Fixed, Chunked}
 use Rattle.fed_http.specs.declared.message.Kind.{Kind}

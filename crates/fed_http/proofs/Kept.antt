@@ -1,5 +1,5 @@
 -- What a reader keeps.
-use Rattle.std.proofs.Common.{arith, ◌≡◌, ◌≢◌, ℕ, ◌+◌, ◌≤◌, Bool, true, false, true≢false, List, [], ◌++◌, length, take, refl, sym, ap, subst, ◌∙◌, Option, Some, None}
+use Rattle.std.proofs.Common.{arith, ◌≡◌, ℕ, ◌+◌, ◌≤◌, Bool, true, false, true≢false, List, [], ◌++◌, length, take, refl, sym, ap, subst, ◌∙◌, Option, Some, None}
 use Rattle.std.proofs.Math.Logic.{∥∥₁_elim}
 use Rattle.fed_http.specs.Limits.{max_held}
 use Rattle.fed_http.specs.Keeping.{Kept, IsKept, HasEnded}

@@ -37,6 +37,8 @@ mod Kept
 mod TakenBodies
 mod HeadStates
 mod HeadLemmas
+mod PlaceSteps
+mod PlaceStarts
 mod ChunkLemmas
 pub mod TextLemmas
 mod Cutting

@@ -1,5 +1,5 @@
 -- The line of a chunk, as its bytes come.
-use Rattle.std.proofs.Common.{arith, ◌≡◌, ℕ, ◌+◌, ◌-◌, ◌<◌, ◌≤◌, List, [], ◌∷◌, ◌++◌, length, take, drop, refl, sym, ap, subst, ◌∙◌, append-nil, length-append, inl, inr}
+use Rattle.std.proofs.Common.{arith, ◌≡◌, ℕ, ◌+◌, ◌-◌, ◌<◌, ◌≤◌, List, [], ◌++◌, length, take, drop, refl, sym, ap, subst, ◌∙◌, append-nil, length-append, inl, inr}
 use Rattle.std.proofs.lemmas.Bool.{cases_lt}
 use Rattle.std.specs.Coded.{×_prop, le_prop}
 use Rattle.std.proofs.Math.Logic.{∥∥₁_elim}
@@ -11,6 +11,11 @@ use Rattle.fed_http.specs.Faults.{HasBadLine, IsBadChunk, no_line, IsTooLarge, l
 use Rattle.fed_http.specs.ChunkParts.{IsLineAt, LacksLine}
 use Rattle.fed_http.specs.Waiting.{IsWaiting}
 use Rattle.fed_http.specs.Keeping.{Kept, IsKeptAt, IsInLine, IsInChunk, IsInTrailer}
+use Rattle.fed_http.specs.TextPlaces.{IsWholeLine, IsLinePlace, IsTrailerPlace, GoesOnTo}
+use Rattle.fed_http.specs.declared.text_place.TextPlace.{TextPlace}
+use Rattle.fed_http.specs.declared.text_place.TextPlace.TheVariants.{LineStart}
+use Rattle.fed_http.proofs.PlaceSteps.{late_on}
+use Rattle.fed_http.proofs.PlaceStarts.{line_unfinished, trailer_begins}
 use Rattle.fed_http.specs.KeepingParts.{IsSound}
 use Rattle.fed_http.specs.declared.chunks.Line.{Line}
 use Rattle.fed_http.specs.declared.framing.Framing.TheVariants.{Chunked}
@@ -18,7 +23,7 @@ use Rattle.fed_http.specs.declared.message.Kind.{Kind}
 use Rattle.fed_http.specs.declared.place.Place.TheVariants.{InLine}
 use Rattle.fed_http.proofs.LineCounts.{front_in}
 use Rattle.fed_http.proofs.Stays.{reaches_on, chunks_on, chunks_is}
-use Rattle.fed_http.proofs.Keeping.{split_front, text_more, line_is_behind, text_head, text_cut, chunks_more, chunks_as, chunks_reach, chunk_waits, line_waits, trailer_waits, empty_lacks_trailer}
+use Rattle.fed_http.proofs.Keeping.{split_front, text_more, line_is_behind, text_head, text_cut, chunks_more, chunks_as, chunks_reach, line_waits, trailer_waits, empty_lacks_trailer}
 
 -- ---- what is looked at
 
@@ -78,12 +83,18 @@ line_ends k more all slice found at sound text is line =
 
 -- ---- no line yet
 
+-- where the place tells so
+pub line_goes : (kind : Kind) (k : Kept) (bytes more all slice : List ℕ) (before : ℕ) (new : TextPlace) → IsInLine kind k bytes → all ≡ k.text ++ more → slice ≡ drop k.head all → before ≡ length k.text - k.head → GoesOnTo k.at before more new → LacksLine slice
+line_goes kind k bytes more all slice before new x text is count g =
+    let short : length (x.line ++ more) < max_head = omega (arith, g.short, count, length_line kind k bytes x, length-append x.line more) in
+    subst LacksLine (sym (slice_is kind k bytes more all slice x text is)) (line_unfinished (x.line ++ more) new (late_on IsWholeLine x.line more k.at new g.few g.late g.follows x.at) g.known short)
+
 pub line_on : (kind : Kind) (k j : Kept) (bytes more slice : List ℕ) → IsInLine kind k bytes → j.start ≡ k.start → j.head ≡ k.head → j.body ≡ k.body → j.text ≡ k.text ++ more → slice ≡ drop k.head j.text → LacksLine slice
-    → IsInLine kind j (bytes ++ more) × IsWaiting kind (bytes ++ more)
-line_on kind k j bytes more slice x start head body text is lacks =
+    → ((before : List ℕ) → IsLinePlace before k.at → IsLinePlace (before ++ more) j.at) → IsInLine kind j (bytes ++ more) × IsWaiting kind (bytes ++ more)
+line_on kind k j bytes more slice x start head body text is lacks on =
     let at = subst LacksLine (slice_is kind k bytes more j.text slice x text is) lacks in
     let next = chunks_more kind k j bytes more x.line x.line (x.line ++ more) x.keeps start head (text_more kind k bytes more Chunked x.line x.keeps.rest j.text x.keeps.keeps text) in
-    (record { line = x.line ++ more; keeps = next; body = body ∙ x.body; few = at.few; none = at.none }, line_waits kind j (bytes ++ more) (x.line ++ more) next at)
+    (record { line = x.line ++ more; keeps = next; body = body ∙ x.body; few = at.few; none = at.none; at = on x.line x.at }, line_waits kind j (bytes ++ more) (x.line ++ more) next at)
 
 -- ---- faults
 
@@ -123,9 +134,9 @@ line_whole kind k bytes more all slice found x text is line =
     sym (split_front x.line more (print_chunk_line line.line) (drop found.len slice) whole (omega (arith, beyond)) ∙ ap (λ n. x.line ++ take n more) count)
 
 pub line_last : (kind : Kind) (k j : Kept) (bytes more all slice : List ℕ) (found : Line) → IsInLine kind k bytes → all ≡ k.text ++ more → slice ≡ drop k.head all → IsLineAt slice found → found.size ≡ 0
-    → j.start ≡ k.start → j.head ≡ k.head → j.body ≡ k.body → j.text ≡ take k.head all
+    → j.start ≡ k.start → j.head ≡ k.head → j.body ≡ k.body → j.text ≡ take k.head all → j.at ≡ LineStart 0
     → IsInTrailer kind j (bytes ++ last_of k more found.len) × IsWaiting kind (bytes ++ last_of k more found.len)
-line_last kind k j bytes more all slice found x text is line zero start head body cut =
+line_last kind k j bytes more all slice found x text is line zero start head body cut begins =
     let u = last_of k more found.len in
     let h = x.keeps.keeps in
     let front = cut ∙ text_head kind k bytes Chunked x.line x.keeps.rest all (x.line ++ more) k.head h (text_more kind k bytes more Chunked x.line x.keeps.rest all h text) refl in
@@ -140,6 +151,7 @@ line_last kind k j bytes more all slice found x text is line zero start head bod
         body = body ∙ x.body;
         few = empty_lacks_trailer.few;
         none = empty_lacks_trailer.unended.none;
+        at = subst (IsTrailerPlace []) (sym begins) trailer_begins;
       },
       trailer_waits kind j (bytes ++ u) [] line.line keeps is_last empty_lacks_trailer,
     )

@@ -1,26 +1,19 @@
 -- What a step keeps, in the state of a reader.
-use Rattle.std.proofs.Common.{arith, ◌≡◌, ◌≢◌, ℕ, suc, ◌+◌, ◌-◌, ◌<◌, ◌≤◌, List, [], ◌∷◌, ◌++◌, length, take, drop, get_or, replicate, refl, sym, ap, subst, ◌∙◌, append-nil, length-append}
+use Rattle.std.proofs.Common.{arith, ◌≡◌, ◌≢◌, ℕ, ◌+◌, ◌-◌, ◌<◌, ◌≤◌, List, [], ◌∷◌, ◌++◌, length, take, get_or, replicate, refl, sym, ap, subst, ◌∙◌, append-nil, length-append}
 use Rattle.std.specs.Prelude.{min, vec_len, vec_capacity}
-use Rattle.std.proofs.lemmas.List.{take-append-drop, length-take}
+use Rattle.std.proofs.lemmas.List.{length-take}
 use Rattle.httparse.specs.Ascii.{crlf_bytes}
-use Rattle.fed_http.specs.Limits.{max_head, max_body}
-use Rattle.fed_http.specs.ChunkParts.{IsLineAt, LacksLine, IsTrailerAt, LacksTrailer, IsTrailerFault}
-use Rattle.fed_http.specs.Faults.{HasBadLine, IsFault}
 use Rattle.fed_http.specs.Waiting.{IsWaiting}
-use Rattle.fed_http.specs.Keeping.{Kept, IsKept, IsKeptAt, IsInBody, IsInLine, IsInChunk, IsInTrailer, HasEnded}
-use Rattle.fed_http.specs.KeepingParts.{kept_of, IsSound, HasRoomAt, HasTextRoom, Stepped, StepFails}
-use Rattle.fed_http.specs.declared.chunks.Line.{Line}
-use Rattle.fed_http.specs.declared.fault.HttpFault.{HttpFault}
-use Rattle.fed_http.specs.declared.fault.HttpFault.TheVariants.{Memory, BadHead, TooLarge, BadLength, BadChunk, HasFailed}
+use Rattle.fed_http.specs.Keeping.{Kept, IsKept, IsKeptAt, IsInBody, IsInLine, IsInChunk}
+use Rattle.fed_http.specs.KeepingParts.{kept_of, HasRoomAt, HasTextRoom, Stepped, StepFails}
+use Rattle.fed_http.specs.declared.fault.HttpFault.TheVariants.{BadChunk}
 use Rattle.fed_http.specs.declared.message.Kind.{Kind}
 use Rattle.fed_http.specs.declared.place.Place.{Place}
-use Rattle.fed_http.specs.declared.place.Place.TheVariants.{InHead, InBody, InLine, InData, BehindData, BehindReturn, InTrailer, Ended}
+use Rattle.fed_http.specs.declared.place.Place.TheVariants.{InHead, InBody, InLine, InData, BehindData, BehindReturn, Ended}
 use Rattle.fed_http.specs.declared.state.State.{State}
-use Rattle.fed_http.proofs.Stays.{fault_stays}
-use Rattle.fed_http.proofs.Keeping.{take_first, body_waits, chunk_waits}
-use Rattle.fed_http.proofs.LineSteps.{LineRoom, line_room, LineEnds, line_ends, line_on, line_bad, line_large, line_last, line_chunk, last_of}
+use Rattle.fed_http.specs.declared.text_place.TextPlace.TheVariants.{Size}
+use Rattle.fed_http.proofs.Keeping.{body_waits, chunk_waits}
 use Rattle.fed_http.proofs.BodySteps.{body_on, body_ends, data_on, return_on, feed_on, return_bad, feed_bad}
-use Rattle.fed_http.proofs.TrailerSteps.{TrailerRoom, trailer_room, TrailerEnds, trailer_ends_at, trailer_more, trailer_fault, trailer_fault_other, trailer_ends}
 
 -- ---- places
 
@@ -117,14 +110,14 @@ returned s t rest at now start text body some is room =
       waits = λ kind bytes x unended. feed_waits kind (kept_of t) (bytes ++ take 1 rest) now (kept kind bytes x);
     }
 
-pub fed : (s t : State) (rest : List ℕ) → s.place ≡ BehindReturn → t.place ≡ InLine → SameStart s t → t.text.items ≡ take s.head s.text.items → vec_len t.text ≤ vec_len s.text → vec_capacity t.text ≡ vec_capacity s.text → SameBody s t → 0 < length rest
+pub fed : (s t : State) (rest : List ℕ) → s.place ≡ BehindReturn → t.place ≡ InLine → t.at ≡ Size 0 → SameStart s t → t.text.items ≡ take s.head s.text.items → vec_len t.text ≤ vec_len s.text → vec_capacity t.text ≡ vec_capacity s.text → SameBody s t → 0 < length rest
     → get_or rest 0 0 ≡ 10 → HasRoomAt s.place s (length rest) → Stepped s t rest 1
-fed s t rest at now start cut len cap body some is room =
+fed s t rest at now begins start cut len cap body some is room =
     let first = first_is 10 rest some is in
     let had = room_of BehindReturn s (length rest) at room in
     let both : (kind : Kind) (bytes : List ℕ) → IsKept kind (kept_of s) bytes → IsInLine kind (kept_of t) (bytes ++ take 1 rest) × IsWaiting kind (bytes ++ take 1 rest) =
     (λ kind bytes x.
-    let here = feed_on kind (kept_of s) (kept_of t) bytes (at_place BehindReturn kind (kept_of s) bytes at x) start.start start.head cut body.items in
+    let here = feed_on kind (kept_of s) (kept_of t) bytes (at_place BehindReturn kind (kept_of s) bytes at x) start.start start.head cut body.items begins in
     subst (λ v. IsInLine kind (kept_of t) (bytes ++ v) × IsWaiting kind (bytes ++ v)) first here) in
     record {
       within = omega (arith, some);

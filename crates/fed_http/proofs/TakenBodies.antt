@@ -9,7 +9,7 @@ use Rattle.fed_http.specs.Limits.{max_head}
 use Rattle.fed_http.specs.Head.{print_head}
 use Rattle.fed_http.specs.Faults.{IsFault}
 use Rattle.fed_http.specs.Waiting.{IsWaiting}
-use Rattle.fed_http.specs.Keeping.{Kept, IsKept, IsKeptAt, KeepsHead, IsInBody, IsInChunk}
+use Rattle.fed_http.specs.Keeping.{Kept, IsKept, KeepsHead, IsInBody, IsInChunk}
 use Rattle.fed_http.specs.KeepingParts.{kept_of, IsSound, IsSoundFor, HasRoomAt, HasRoomFor, HasTextRoom, Stepped, StepFails, BodyEnds, BodyWaits, Ends, StillWaits, TakeFails, Begun}
 use Rattle.fed_http.specs.declared.fault.HttpFault.{HttpFault}
 use Rattle.fed_http.specs.declared.fault.HttpFault.TheVariants.{Memory}

@@ -8,7 +8,7 @@ use Rattle.httparse.specs.Grammar.{LineEnd, crlf, lf, print_end, print_blank, Is
 use Rattle.httparse.proofs.PieceLemmas.{space_ends_token}
 use Rattle.fed_http.specs.LineParts.{LineEndAt, BeginsNoLine}
 
-snoc_blank : (blank : List LineEnd) (e : LineEnd) → print_blank (blank ++ e ∷ []) ≡ print_blank blank ++ print_end e
+pub snoc_blank : (blank : List LineEnd) (e : LineEnd) → print_blank (blank ++ e ∷ []) ≡ print_blank blank ++ print_end e
 snoc_blank [] crlf = refl
 snoc_blank [] lf = refl
 snoc_blank (b ∷ blank) e = ap (λ v. print_end b ++ v) (snoc_blank blank e) ∙ sym (append_assoc (print_end b) (print_blank blank) (print_end e))

@@ -1,18 +1,20 @@
 -- What a step in the line of a chunk or in the trailer keeps, in the state of a reader.
-use Rattle.std.proofs.Common.{arith, ◌≡◌, ◌≢◌, ℕ, ◌+◌, ◌-◌, ◌<◌, ◌≤◌, List, ◌++◌, length, take, drop, refl, sym, ap, subst, ◌∙◌, append_assoc}
-use Rattle.std.specs.Prelude.{min, vec_len, vec_capacity}
+use Rattle.std.proofs.Common.{arith, ◌≡◌, ℕ, ◌+◌, ◌-◌, ◌<◌, ◌≤◌, List, ◌++◌, length, take, drop, refl, sym, ap, subst, ◌∙◌, append_assoc}
+use Rattle.std.specs.Prelude.{vec_len, vec_capacity}
 use Rattle.std.proofs.lemmas.List.{take-append-drop}
-use Rattle.fed_http.specs.Limits.{max_head, max_body}
+use Rattle.fed_http.specs.Limits.{max_body}
 use Rattle.fed_http.specs.ChunkParts.{IsLineAt, LacksLine, IsTrailerAt, LacksTrailer, IsTrailerFault}
 use Rattle.fed_http.specs.Faults.{HasBadLine, IsFault}
 use Rattle.fed_http.specs.Waiting.{IsWaiting}
 use Rattle.fed_http.specs.Keeping.{IsKept, IsInLine, IsInChunk, IsInTrailer, HasEnded}
+use Rattle.fed_http.specs.TextPlaces.{IsLinePlace, IsTrailerPlace}
+use Rattle.fed_http.specs.declared.text_place.TextPlace.TheVariants.{LineStart}
 use Rattle.fed_http.specs.KeepingParts.{kept_of, IsSound, HasRoomAt, Stepped, StepFails}
 use Rattle.fed_http.specs.declared.chunks.Line.{Line}
 use Rattle.fed_http.specs.declared.fault.HttpFault.{HttpFault}
 use Rattle.fed_http.specs.declared.fault.HttpFault.TheVariants.{TooLarge, BadChunk}
 use Rattle.fed_http.specs.declared.message.Kind.{Kind}
-use Rattle.fed_http.specs.declared.place.Place.TheVariants.{InHead, InLine, InData, InTrailer, Ended}
+use Rattle.fed_http.specs.declared.place.Place.TheVariants.{InLine, InData, InTrailer, Ended}
 use Rattle.fed_http.specs.declared.state.State.{State}
 use Rattle.httparse.specs.Ascii.{crlf_bytes}
 use Rattle.std.proofs.Common.{replicate, []}
@@ -31,13 +33,16 @@ grown_fault kind bytes rest taken fault is =
 -- ---- the line of a chunk
 
 pub line_still : (s t : State) (rest slice : List ℕ) (taken : ℕ) → s.place ≡ InLine → t.place ≡ s.place → SameStart s t → MoreText s t.text.items (vec_len t.text) (vec_capacity t.text) (take taken rest) → SameBody s t → taken ≤ length rest
-    → (0 < length rest → 0 < taken) → HasRoomAt s.place s (length rest) → slice ≡ drop s.head t.text.items → LacksLine slice → Stepped s t rest taken
-line_still s t rest slice taken at now start text body within some room is lacks =
+    → (0 < length rest → 0 < taken) → HasRoomAt s.place s (length rest) → slice ≡ drop s.head t.text.items → ((kind : Kind) (bytes : List ℕ) → IsInLine kind (kept_of s) bytes → LacksLine slice)
+    → ((before : List ℕ) → IsLinePlace before s.at → IsLinePlace (before ++ take taken rest) t.at) → Stepped s t rest taken
+line_still s t rest slice taken at now start text body within some room is lacks on =
     let here : t.place ≡ InLine = now ∙ at in
     let had = room_of InLine s (length rest) at room in
     let len = length_taken taken rest within in
     let both : (kind : Kind) (bytes : List ℕ) → IsKept kind (kept_of s) bytes → IsInLine kind (kept_of t) (bytes ++ take taken rest) × IsWaiting kind (bytes ++ take taken rest) =
-    (λ kind bytes x. line_on kind (kept_of s) (kept_of t) bytes (take taken rest) slice (at_place InLine kind (kept_of s) bytes at x) start.start start.head body.items text.items is lacks) in
+    (λ kind bytes x.
+    let y : IsInLine kind (kept_of s) bytes = at_place InLine kind (kept_of s) bytes at x in
+    line_on kind (kept_of s) (kept_of t) bytes (take taken rest) slice y start.start start.head body.items text.items is (lacks kind bytes y) on) in
     record {
       within = within;
       some = some;
@@ -65,10 +70,10 @@ line_over s rest all slice taken found at text is line over = record {
 used_bytes : (s : State) (rest : List ℕ) (taken used len : ℕ) → used ≡ len - (length s.text.items - s.head) → used ≤ length (take taken rest) → last_of (kept_of s) (take taken rest) len ≡ take used rest
 used_bytes s rest taken used len is short = ap (λ n. take n (take taken rest)) (sym is) ∙ take_first used taken rest short
 
-pub line_is_last : (s t : State) (rest all slice : List ℕ) (taken used len cap : ℕ) (found : Line) → s.place ≡ InLine → IsSound (kept_of s) → t.place ≡ InTrailer → SameStart s t → MoreText s all len cap (take taken rest) → t.text.items ≡ take s.head all
+pub line_is_last : (s t : State) (rest all slice : List ℕ) (taken used len cap : ℕ) (found : Line) → s.place ≡ InLine → IsSound (kept_of s) → t.place ≡ InTrailer → t.at ≡ LineStart 0 → SameStart s t → MoreText s all len cap (take taken rest) → t.text.items ≡ take s.head all
     → vec_len t.text ≤ vec_len s.text → vec_capacity t.text ≡ cap → SameBody s t → taken ≤ length rest → HasRoomAt s.place s (length rest) → slice ≡ drop s.head all → IsLineAt slice found → found.size ≡ 0
     → used ≡ found.len - (length s.text.items - s.head) → Stepped s t rest used
-line_is_last s t rest all slice taken used len cap found at sound now start text cut fewer room_is body within room is line zero used_is =
+line_is_last s t rest all slice taken used len cap found at sound now begins start text cut fewer room_is body within room is line zero used_is =
     let had = room_of InLine s (length rest) at room in
     let length_is = length_taken taken rest within in
     let ends = line_ends (kept_of s) (take taken rest) all slice found at sound text.items is line in
@@ -76,7 +81,7 @@ line_is_last s t rest all slice taken used len cap found at sound now start text
     let bytes_are = used_bytes s rest taken used found.len used_is short in
     let both : (kind : Kind) (bytes : List ℕ) → IsKept kind (kept_of s) bytes → IsInTrailer kind (kept_of t) (bytes ++ take used rest) × IsWaiting kind (bytes ++ take used rest) =
     (λ kind bytes x.
-    let here = line_last kind (kept_of s) (kept_of t) bytes (take taken rest) all slice found (at_place InLine kind (kept_of s) bytes at x) text.items is line zero start.start start.head body.items cut in
+    let here = line_last kind (kept_of s) (kept_of t) bytes (take taken rest) all slice found (at_place InLine kind (kept_of s) bytes at x) text.items is line zero start.start start.head body.items cut begins in
     subst (λ v. IsInTrailer kind (kept_of t) (bytes ++ v) × IsWaiting kind (bytes ++ v)) bytes_are here) in
     record {
       within = omega (arith, short, length_is, within);
@@ -112,13 +117,16 @@ line_is_chunk s t rest all slice taken used len cap found at sound now start tex
 -- ---- the trailer
 
 pub trailer_still : (s t : State) (rest slice : List ℕ) (taken : ℕ) → s.place ≡ InTrailer → t.place ≡ s.place → SameStart s t → MoreText s t.text.items (vec_len t.text) (vec_capacity t.text) (take taken rest) → SameBody s t → taken ≤ length rest
-    → (0 < length rest → 0 < taken) → HasRoomAt s.place s (length rest) → slice ≡ drop s.head t.text.items → LacksTrailer slice → Stepped s t rest taken
-trailer_still s t rest slice taken at now start text body within some room is lacks =
+    → (0 < length rest → 0 < taken) → HasRoomAt s.place s (length rest) → slice ≡ drop s.head t.text.items → ((kind : Kind) (bytes : List ℕ) → IsInTrailer kind (kept_of s) bytes → LacksTrailer slice)
+    → ((before : List ℕ) → IsTrailerPlace before s.at → IsTrailerPlace (before ++ take taken rest) t.at) → Stepped s t rest taken
+trailer_still s t rest slice taken at now start text body within some room is lacks on =
     let here : t.place ≡ InTrailer = now ∙ at in
     let had = room_of InTrailer s (length rest) at room in
     let len = length_taken taken rest within in
     let both : (kind : Kind) (bytes : List ℕ) → IsKept kind (kept_of s) bytes → IsInTrailer kind (kept_of t) (bytes ++ take taken rest) × IsWaiting kind (bytes ++ take taken rest) =
-    (λ kind bytes x. trailer_more kind (kept_of s) (kept_of t) bytes (take taken rest) slice (at_place InTrailer kind (kept_of s) bytes at x) start.start start.head body.items text.items is lacks) in
+    (λ kind bytes x.
+    let y : IsInTrailer kind (kept_of s) bytes = at_place InTrailer kind (kept_of s) bytes at x in
+    trailer_more kind (kept_of s) (kept_of t) bytes (take taken rest) slice y start.start start.head body.items text.items is (lacks kind bytes y) on) in
     record {
       within = within;
       some = some;

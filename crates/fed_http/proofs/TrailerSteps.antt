@@ -1,19 +1,23 @@
 -- The trailer, as its bytes come.
-use Rattle.std.proofs.Common.{arith, ◌≡◌, ◌≢◌, ℕ, ◌+◌, ◌-◌, ◌<◌, ◌≤◌, List, [], ◌∷◌, ◌++◌, length, take, drop, All, refl, sym, ap, subst, ◌∙◌, append_assoc, append-nil, length-append, inl, inr}
+use Rattle.std.proofs.Common.{arith, ◌≡◌, ◌≢◌, ℕ, ◌+◌, ◌-◌, ◌<◌, ◌≤◌, List, [], ◌++◌, length, take, drop, refl, sym, ap, subst, ◌∙◌, append_assoc, length-append, inl, inr}
 use Rattle.std.proofs.lemmas.Bool.{cases_lt}
 use Rattle.std.proofs.lemmas.List.{length-drop}
 use Rattle.std.specs.Coded.{×_prop, le_prop}
 use Rattle.std.proofs.Math.Logic.{∥∥₁_elim}
 use Rattle.httparse.specs.Grammar.{print_chunk_line, Field, LineEnd, print_section, HasNoSection}
 use Rattle.httparse.proofs.PieceLemmas.{front-append}
-use Rattle.fed_http.specs.Limits.{max_head, max_body}
+use Rattle.fed_http.specs.Limits.{max_head}
 use Rattle.fed_http.specs.Head.{print_head, message_of}
-use Rattle.fed_http.specs.Body.{IsTrailer, ChunkedBody, print_chunks, print_chunked, chunk_data}
+use Rattle.fed_http.specs.Body.{IsTrailer, ChunkedBody, print_chunks, print_chunked}
 use Rattle.fed_http.specs.Unfinished.{trailer_front}
 use Rattle.fed_http.specs.Faults.{ReachesBody, ReachesTrailer, no_trailer, IsFault, trailers, large_trailer}
 use Rattle.fed_http.specs.ChunkParts.{IsTrailerAt, LacksTrailer, IsTrailerFault}
 use Rattle.fed_http.specs.Waiting.{IsWaiting}
 use Rattle.fed_http.specs.Keeping.{Kept, IsKeptAt, IsInTrailer, HasEnded}
+use Rattle.fed_http.specs.TextPlaces.{FollowsSection, IsTrailerPlace, GoesOnTo}
+use Rattle.fed_http.specs.declared.text_place.TextPlace.{TextPlace}
+use Rattle.fed_http.proofs.PlaceSteps.{late_on}
+use Rattle.fed_http.proofs.PlaceStarts.{trailer_unfinished}
 use Rattle.fed_http.specs.KeepingParts.{IsSound}
 use Rattle.fed_http.specs.declared.fault.HttpFault.{HttpFault}
 use Rattle.fed_http.specs.declared.fault.HttpFault.TheVariants.{Memory, BadHead, TooLarge, BadLength, BadChunk, HasFailed}
@@ -84,14 +88,20 @@ trailer_ends_at k more all slice len at sound text is t =
 
 -- ---- no end yet
 
+-- where the place tells so
+pub trailer_goes : (kind : Kind) (k : Kept) (bytes more all slice : List ℕ) (before : ℕ) (new : TextPlace) → IsInTrailer kind k bytes → all ≡ k.text ++ more → slice ≡ drop k.head all → before ≡ length k.text - k.head → GoesOnTo k.at before more new → LacksTrailer slice
+trailer_goes kind k bytes more all slice before new x text is count g =
+    let short : length (x.line ++ more) < max_head = omega (arith, g.short, count, length_line kind k bytes x, length-append x.line more) in
+    subst LacksTrailer (sym (slice_is kind k bytes more all slice x text is)) (trailer_unfinished (x.line ++ more) new (late_on (FollowsSection 0) x.line more k.at new g.few g.late g.follows x.at) g.known short)
+
 pub trailer_more : (kind : Kind) (k j : Kept) (bytes more slice : List ℕ) → IsInTrailer kind k bytes → j.start ≡ k.start → j.head ≡ k.head → j.body ≡ k.body → j.text ≡ k.text ++ more → slice ≡ drop k.head j.text → LacksTrailer slice
-    → IsInTrailer kind j (bytes ++ more) × IsWaiting kind (bytes ++ more)
-trailer_more kind k j bytes more slice x start head body text is lacks =
+    → ((before : List ℕ) → IsTrailerPlace before k.at → IsTrailerPlace (before ++ more) j.at) → IsInTrailer kind j (bytes ++ more) × IsWaiting kind (bytes ++ more)
+trailer_more kind k j bytes more slice x start head body text is lacks on =
     let at = subst LacksTrailer (slice_is kind k bytes more j.text slice x text is) lacks in
     let printed = print_chunk_line x.last in
     let read = chunks_more kind k j bytes more x.line (printed ++ x.line) (x.line ++ more) x.keeps start head (text_more kind k bytes more Chunked x.line x.keeps.rest j.text x.keeps.keeps text) in
     let next = chunks_as kind j (bytes ++ more) (x.line ++ more) ((printed ++ x.line) ++ more) (printed ++ (x.line ++ more)) read (append_assoc printed x.line more) in (
-      record { last = x.last; is_last = x.is_last; line = x.line ++ more; keeps = next; body = body ∙ x.body; few = at.few; none = at.unended.none },
+      record { last = x.last; is_last = x.is_last; line = x.line ++ more; keeps = next; body = body ∙ x.body; few = at.few; none = at.unended.none; at = on x.line x.at },
       trailer_waits kind j (bytes ++ more) (x.line ++ more) x.last next x.is_last at,
     )
 

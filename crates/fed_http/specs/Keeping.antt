@@ -1,5 +1,5 @@
 -- What a reader keeps of the bytes of a message that is not whole, and which bytes it keeps it of.
-use Rattle.std.specs.Prelude.{◌≡◌, ℕ, ◌+◌, ◌<◌, ◌≤◌, List, [], ◌∷◌, ◌++◌, length, Option, Some, ⊤}
+use Rattle.std.specs.Prelude.{◌≡◌, ℕ, ◌+◌, ◌<◌, ◌≤◌, List, [], ◌∷◌, ◌++◌, length, Option, Some}
 use Rattle.httparse.specs.Grammar.{ChunkLine, print_chunk_line, chunk_size, HasNoChunkLine, HasNoSection}
 use Rattle.fed_http.specs.Limits.{max_head, max_body}
 use Rattle.fed_http.specs.Head.{Head, IsHeadOf, print_head, IsWithinLimits, IsFinal, head_framing, message_of, HasNoHead}
@@ -7,18 +7,21 @@ use Rattle.fed_http.specs.Body.{Chunk, IsShortLine, IsLastLine, chunk_data}
 use Rattle.fed_http.specs.Faults.{ReadsChunks}
 use Rattle.fed_http.specs.Unfinished.{trailer_front}
 use Rattle.fed_http.specs.Text.{IsText}
+use Rattle.fed_http.specs.TextPlaces.{IsHeadPlace, IsLinePlace, IsTrailerPlace}
 use Rattle.fed_http.specs.declared.framing.Framing.{Framing}
 use Rattle.fed_http.specs.declared.framing.Framing.TheVariants as framings
 use Rattle.fed_http.specs.declared.message.Kind.{Kind}
 use Rattle.fed_http.specs.declared.message.Message.{Message}
 use Rattle.fed_http.specs.declared.message.Message.TheVariants.{Request, Reply}
 use Rattle.fed_http.specs.declared.place.Place.{Place}
+use Rattle.fed_http.specs.declared.text_place.TextPlace.{TextPlace}
 use Rattle.fed_http.specs.declared.place.Place.TheVariants.{InHead, InBody, InLine, InData, BehindData, BehindReturn, InTrailer, Ended}
 
--- where in the message the bytes end; how many bytes its head has; its head, and behind it the line of a chunk or the trailer; the message of
--- the head, without its body; the body so far
+-- where in the message the bytes end, and where in its head, a chunk line or the trailer; how many bytes its head has; its head, and behind it
+-- the line of a chunk or the trailer; the message of the head, without its body; the body so far
 pub record Kept : Type 0 where
   pub place : Place
+  pub at : TextPlace
   pub head : ℕ
   pub text : List ℕ
   pub start : Option Message
@@ -47,6 +50,7 @@ pub record IsInHead (kind : Kind) (k : Kept) (bytes : List ℕ) : Type 0 where
   pub body : k.body ≡ []
   pub few : length bytes < max_head
   pub none : HasNoHead kind bytes
+  pub at : IsHeadPlace kind bytes k.at
 
 -- of a body of a known length so many bytes are missing
 pub record IsInBody (kind : Kind) (k : Kept) (bytes : List ℕ) (left : ℕ) : Type 0 where
@@ -70,6 +74,7 @@ pub record IsInLine (kind : Kind) (k : Kept) (bytes : List ℕ) : Type 0 where
   pub body : k.body ≡ chunk_data keeps.chunks
   pub few : length line < max_head
   pub none : HasNoChunkLine line
+  pub at : IsLinePlace line k.at
 
 -- behind the line of a chunk, so many bytes of its data are missing; end is what came behind the data
 pub record IsInChunk (kind : Kind) (k : Kept) (bytes : List ℕ) (left : ℕ) (end : List ℕ) : Type 0 where
@@ -91,6 +96,7 @@ pub record IsInTrailer (kind : Kind) (k : Kept) (bytes : List ℕ) : Type 0 wher
   pub body : k.body ≡ chunk_data keeps.chunks
   pub few : length line < max_head
   pub none : HasNoSection (trailer_front line)
+  pub at : IsTrailerPlace line k.at
 
 -- the bytes are the text of the message that is kept
 pub record HasEnded (kind : Kind) (k : Kept) (bytes : List ℕ) : Type 0 where

@@ -1,5 +1,5 @@
 -- What the steps of a reader come to.
-use Rattle.std.specs.Prelude.{◌≡◌, ◌≢◌, ℕ, ◌+◌, ◌<◌, ◌≤◌, List, [], ◌++◌, length, take, drop, min, ◌⊎◌, ◌-◌, Option, Some, vec_len, vec_capacity, Bool, true, false, ⊤}
+use Rattle.std.specs.Prelude.{◌≡◌, ◌≢◌, ℕ, ◌+◌, ◌<◌, ◌≤◌, List, [], ◌++◌, length, take, drop, min, ◌⊎◌, ◌-◌, Some, vec_len, vec_capacity, Bool, true, false, ⊤}
 use Rattle.httparse.specs.declared.spans.HeaderSpan.{HeaderSpan}
 use Rattle.fed_http.specs.Limits.{max_head, max_body}
 use Rattle.fed_http.specs.Head.{Head, ReadsHead, IsWithinLimits, IsFinal, head_framing, message_of, print_head}
@@ -55,7 +55,7 @@ IsMessageOf kind bytes headers found m = (h : Head) → IsHeadAt kind bytes head
 -- ---- the state
 
 abbrev pub kept_of : State → Kept
-kept_of s = record { place = s.place; head = s.head; text = s.text.items; start = s.start; body = s.body.items }
+kept_of s = record { place = s.place; at = s.at; head = s.head; text = s.text.items; start = s.start; body = s.body.items }
 
 -- it is kept of some bytes
 abbrev pub IsSound : Kept → Type 0

@@ -8,6 +8,7 @@ pub mod Framing
 pub mod FramingParts
 pub mod Head
 pub mod HeadParts
+pub mod TextPlaces
 pub mod Limits
 pub mod LineParts
 pub mod Lines

@@ -17,7 +17,7 @@
 //! - `finding`: where a message ends, found without memory
 //! - `copying`: from the parts of a request's head to owned ones
 //! - `opening`: from the bytes of a head to its owned parts
-//! - `place`, `state`: where in a message the bytes so far end, and what is kept of them
+//! - `place`, `text_place`, `state`: where in a message, and in a head, a chunk line or a trailer, the bytes so far end, and what is kept of them
 //! - `reader`: `Reader`, which reads messages from a stream of pieces
 //! - `laws`: what holds of all messages and their texts, and `read_message`, the plain program of it
 //! - `writing`: from messages to their bytes, and `phrase`, the phrase of a status
@@ -42,6 +42,7 @@ mod reply;
 mod request;
 mod sending;
 mod state;
+mod text_place;
 mod unfinished;
 mod writing;
 mod x_matrix;

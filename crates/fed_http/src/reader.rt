@@ -20,7 +20,7 @@ use std::marker::Model;
 ///   most `MAX_HEAD` bytes. A body has at most `MAX_BODY`.
 ///
 /// Of the bytes since the last message it keeps the head, the body so far, and a chunk line or a trailer that has not ended: `held` says how
-/// many bytes these are. With a piece it looks at most at so many of them again as a head may have. Bytes past a limit are not looked at.
+/// many bytes these are. It looks at each byte a few times, in whatever pieces they come, and at none past a limit.
 ///
 /// Contracts say of what it is given by the bytes that it stands for: those since it was made, or since it last gave a message. Some such
 /// bytes there are until it has failed.

@@ -2,6 +2,7 @@
 ghost use Rattle.std.specs.Prelude.{◌≡◌, ◌≢◌, ◌-◌, ◌+◌, ◌<◌, ◌≤◌, [], List, ℕ, ◌++◌, take, length, true, false, vec_len, vec_capacity, Some, None, IfOk, IfErr, IfSome, IfNone};
 ghost use Rattle.fed_http.specs.Limits.{max_head, max_body, max_held};
 ghost use Rattle.fed_http.specs.Faults.{IsFault};
+ghost use Rattle.fed_http.specs.TextPlaces.{HeadGoesOnTo};
 ghost use Rattle.fed_http.specs.Keeping.{IsKept, with_body};
 ghost use Rattle.fed_http.specs.KeepingParts.{kept_of, IsSound, IsSoundFor, HasRoomAt, HasRoomFor, Stepped, StepFails, BodyEnds, BodyWaits, Begun, StillWaits, Ends, TakeFails, Opens, LacksHead, IsPlaceBehind, IsLargeFraming};
 ghost use Rattle.fed_http.specs.declared.place.Place.TheVariants.{InHead, InBody, InLine, InData, BehindData, BehindReturn, InTrailer, Ended};
@@ -13,6 +14,7 @@ use crate::limits::{MAX_BODY, MAX_HEAD};
 use crate::message::{Kind, Message};
 use crate::opening::read_head;
 use crate::place::Place;
+use crate::text_place::TextPlace;
 use fed_json::NoMemory;
 use std::alloc::Global;
 use std::mem::replace;
@@ -20,10 +22,15 @@ use std::mem::replace;
 // So much memory is taken at first for a body whose length the head says, if it is not shorter: what is as long is moved no more as it grows.
 const FIRST_ROOM: usize = 1_048_576;
 
+// So many bytes are copied at a time: for more, the C library takes an instruction that is slower on what lies far from the processor.
+const BLOCK: usize = 4_096;
+
 /// What is kept of the bytes of a message.
 #[derive(Drop)]
 pub struct State {
     pub place: Place,
+    /// Where the text ends, in a head, a chunk line or a trailer that is not whole.
+    pub at: TextPlace,
     /// How many bytes the head has, once it is whole.
     pub head: usize,
     /// The head, and behind it the line of a chunk, or the trailer.
@@ -42,6 +49,7 @@ impl State {
     {
         State {
             place: Place::InHead,
+            at: TextPlace::EmptyLines,
             head: 0,
             text: Vec::new(alloc),
             start: None,
@@ -94,13 +102,36 @@ impl State {
         let before = self.text.len();
         let taken = piece.len().min(MAX_HEAD - before);
         self.text.extend_from_slice(&piece[..taken])?;
+        if let Some(at) = self.goes_on(kind, before) {
+            self.at = at;
+            return Ok(None);
+        }
         match self.open(alloc, kind, piece.len()) {
             Ok(Some(len)) => Ok(Some(len - before)),
-            Ok(None) => Ok(None),
+            Ok(None) => {
+                self.at = self.at.after(kind, &self.text, before);
+                Ok(None)
+            }
             Err(fault) => {
                 self.text.truncate(before);
                 Err(fault)
             }
+        }
+    }
+
+    // The place at the end of the text, where that tells that the text may be the beginning of a head; `None` where it has to be parsed. That
+    // is also so where it has at least doubled since there were so many bytes: then a parse costs no more than the bytes that came.
+    fn goes_on(&self, kind: Kind, before: usize) -> Option<TextPlace>
+        requires { before ≤ length self.now.text.items }
+        ensures { IfSome result (HeadGoesOnTo kind self.now.at before self.now.text.items) }
+    {
+        let len = self.text.len();
+        if len - before >= before || len >= MAX_HEAD {
+            return None;
+        }
+        match self.at.after(kind, &self.text, before) {
+            TextPlace::Unknown => None,
+            place => Some(place),
         }
     }
 
@@ -121,10 +152,12 @@ impl State {
         self.head = opening.len;
         self.start = Some(opening.message);
         self.place = place;
+        self.at = TextPlace::Size { digits: 0 };
         Ok(Some(opening.len))
     }
 
     // Takes memory for what so many bytes may bring at a place.
+    #[inline(always)]
     fn make_room(&mut self, place: Place, more: usize) -> Result<(), NoMemory>
         ensures same { kept_of self.new ≡ kept_of self.old }
         ensures room { IfOk result (λ _. HasRoomFor place self.new more) }
@@ -175,6 +208,7 @@ impl State {
     }
 
     // Takes all of these bytes, where they are of the middle of a body or of a chunk's data, and says whether they are.
+    #[inline(always)]
     fn take_middle(&mut self, rest: &[u8]) -> bool
         requires sound { IsSound (kept_of self.old) }
         requires room { HasRoomAt self.old.place self.old (length rest.now) }
@@ -216,6 +250,7 @@ impl State {
     }
 
     // Takes bytes of a body of which so many are missing.
+    #[inline(always)]
     fn take_fixed(&mut self, left: usize, rest: &[u8]) -> usize
         requires some { 0 < left }
         requires at { self.old.place ≡ InBody left }
@@ -243,8 +278,14 @@ impl State {
     {
         let before = self.text.len() - self.head;
         let taken = line_len(rest).min(MAX_HEAD - before);
-        extend(&mut self.text, &rest[..taken]);
+        let more = &rest[..taken];
+        extend(&mut self.text, more);
+        if let Some(at) = self.at.goes_on(before, more) {
+            self.at = at;
+            return Ok(taken);
+        }
         let Some(line) = find_line(&self.text[self.head..])? else {
+            self.at = self.at.over(more);
             return Ok(taken);
         };
         if line.size > (MAX_BODY - self.body.len()) as u64 {
@@ -254,6 +295,7 @@ impl State {
         if line.size == 0 {
             self.text.truncate(self.head);
             self.place = Place::InTrailer;
+            self.at = TextPlace::LineStart { fields: 0 };
             return Ok(used);
         }
         self.text.truncate(self.head + line.len);
@@ -264,6 +306,7 @@ impl State {
     }
 
     // Takes bytes of the data of a chunk, of which so many are missing.
+    #[inline(always)]
     fn take_data(&mut self, left: usize, rest: &[u8]) -> usize
         requires some { 0 < left }
         requires at { self.old.place ≡ InData left }
@@ -313,6 +356,7 @@ impl State {
         }
         self.text.truncate(self.head);
         self.place = Place::InLine;
+        self.at = TextPlace::Size { digits: 0 };
         Ok(1)
     }
 
@@ -326,13 +370,21 @@ impl State {
     {
         let before = self.text.len() - self.head;
         let taken = line_len(rest).min(MAX_HEAD - before);
-        extend(&mut self.text, &rest[..taken]);
+        let more = &rest[..taken];
+        extend(&mut self.text, more);
+        if let Some(at) = self.at.goes_on(before, more) {
+            self.at = at;
+            return Ok(taken);
+        }
         match find_trailer(&self.text[self.head..])? {
             Some(len) => {
                 self.place = Place::Ended;
                 Ok(len - before)
             }
-            None => Ok(taken),
+            None => {
+                self.at = self.at.over(more);
+                Ok(taken)
+            }
         }
     }
 
@@ -345,6 +397,7 @@ impl State {
     {
         let body = replace(&mut self.body, Vec::new(alloc));
         self.place = Place::InHead;
+        self.at = TextPlace::EmptyLines;
         self.head = 0;
         self.text.clear();
         match self.start.take() {
@@ -359,6 +412,7 @@ impl State {
         ensures body { self.new.body.items ≡ [] }
     {
         self.place = Place::InHead;
+        self.at = TextPlace::EmptyLines;
         self.head = 0;
         self.text = Vec::new(alloc);
         self.start = None;
@@ -390,14 +444,31 @@ fn place_behind(framing: Framing) -> Result<Place, HttpFault>
     }
 }
 
-// Appends bytes for which there is room.
+// Appends bytes for which there is room, block by block. It is inlined, as all is that each piece of a body goes through: pieces may be small.
+#[inline(always)]
 fn extend(to: &mut Vec<u8>, bytes: &[u8])
     requires room { vec_len to.old + length bytes.now ≤ vec_capacity to.old }
     ensures items { to.new.items ≡ to.old.items ++ bytes.now }
     ensures len { vec_len to.new ≡ vec_len to.old + length bytes.now }
     ensures capacity { vec_capacity to.old ≤ vec_capacity to.new }
 {
-    match to.extend_from_slice(bytes) {
+    let mut left = bytes;
+    while left.len() > BLOCK {
+        let (block, rest) = left.split_at(BLOCK);
+        append(to, block);
+        left = rest;
+    }
+    append(to, left);
+}
+
+#[inline(always)]
+fn append(to: &mut Vec<u8>, block: &[u8])
+    requires room { vec_len to.old + length block.now ≤ vec_capacity to.old }
+    ensures items { to.new.items ≡ to.old.items ++ block.now }
+    ensures len { vec_len to.new ≡ vec_len to.old + length block.now }
+    ensures capacity { vec_capacity to.old ≤ vec_capacity to.new }
+{
+    match to.extend_from_slice(block) {
         Ok(()) => {}
         Err(_) => unreachable!(),
     }

@@ -1,7 +1,7 @@
 // The lines of a head and of a trailer that have not ended.
 ghost use Rattle.std.specs.Prelude.{◌≡◌, ◌≤◌, ◌++◌, ◌↔◌, IsTrue, List, length};
 ghost use Rattle.std.specs.List.{list_all, prefix_len};
-ghost use Rattle.httparse.specs.Grammar.{EndsInTarget, LineEnd, print_blank, is_uri_byte, is_token_byte};
+ghost use Rattle.httparse.specs.Grammar.{EndsInTarget, LineEnd, print_blank, is_uri_byte, is_token_byte, is_value_byte};
 ghost use Rattle.fed_http.specs.Lines.{line_feeds, is_line_byte, head_lines, first_lines};
 ghost use Rattle.fed_http.specs.LineParts.{LineEndAt, BeginsNoLine};
 
@@ -111,7 +111,8 @@ fn token_run(bytes: &[u8]) -> usize
         .count()
 }
 
-fn is_token_byte(byte: u8) -> bool
+/// Whether it is a byte of a token (RFC 9110, section 5.6.2).
+pub fn is_token_byte(byte: u8) -> bool
     ensures { result ≡ is_token_byte byte }
 {
     byte.is_ascii_alphanumeric() || b"!#$%&'*+-.^_`|~".contains(&byte)
@@ -120,5 +121,19 @@ fn is_token_byte(byte: u8) -> bool
 fn are_in_target(bytes: &[u8]) -> bool
     ensures { result ≡ list_all is_uri_byte bytes.now }
 {
-    bytes.iter().all(|byte| *byte > b' ' && *byte != 0x7f)
+    bytes.iter().all(|byte| is_target_byte(*byte))
+}
+
+/// Whether `httparse` takes it as a byte of a target: neither a control byte nor a space.
+pub fn is_target_byte(byte: u8) -> bool
+    ensures { result ≡ is_uri_byte byte }
+{
+    byte > b' ' && byte != 0x7f
+}
+
+/// Whether it is a byte of a field's value, or of a reason phrase: no control byte but the tab (RFC 9110, section 5.5).
+pub fn is_value_byte(byte: u8) -> bool
+    ensures { result ≡ is_value_byte byte }
+{
+    byte == b'\t' || byte >= b' ' && byte != 0x7f
 }

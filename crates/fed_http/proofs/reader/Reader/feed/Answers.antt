@@ -1,11 +1,10 @@
-use Rattle.std.proofs.Common.{rules, ◌≡◌, ◌≢◌, ℕ, refl, sym, ap, subst, ◌∙◌, inl}
-use Rattle.std.specs.Prelude.{Option, Err, IfSome, IfNone}
-use Rattle.fed_http.specs.Faults.{IsFault, IsBadHead, IsTooLarge, IsBadLength, IsBadChunk}
-use Rattle.fed_http.specs.Keeping.{Kept}
-use Rattle.fed_http.specs.KeepingParts.{kept_of, IsReading, Ends, StillWaits, TakeFails}
+use Rattle.std.proofs.Common.{rules, ◌≡◌, ◌≢◌, ℕ, refl, sym, subst}
+use Rattle.std.specs.Prelude.{IfSome, IfNone}
+use Rattle.fed_http.specs.Faults.{IsBadHead, IsTooLarge, IsBadLength, IsBadChunk}
+use Rattle.fed_http.specs.KeepingParts.{kept_of, IsReading, Ends, StillWaits}
 use Rattle.fed_http.specs.declared.fault.HttpFault.TheVariants.{Memory, BadHead, TooLarge, BadLength, BadChunk, HasFailed}
 use Rattle.fed_http.proofs.Lines.{on_some, on_none, on_ok}
-use Rattle.fed_http.proofs.Feeds.{fields, feed_gives, feed_waits, feed_fails, told_as, tells, gives_no_fault}
+use Rattle.fed_http.proofs.Feeds.{feed_gives, feed_waits, feed_fails, told_as, tells, gives_no_fault}
 use Rattle.fed_http.proofs.Verdicts.{fault_never_waits}
 use Rattle.fed_http.proofs.Kept.{sound_of, begins_sound, waits_sound, same_sound, gives_start, never_failed}
 use Rattle.fed_http.proofs.reader.Reader.feed.Goals as goal

@@ -2,6 +2,7 @@ use Rattle.std.proofs.Common.{arith, ◌≡◌, ◌≤◌, [], length, take, dro
 use Rattle.std.specs.Prelude.{vec_len}
 use Rattle.fed_http.specs.Head.{print_head}
 use Rattle.fed_http.specs.declared.state.State.{State}
+use Rattle.fed_http.specs.declared.text_place.TextPlace.TheVariants.{Size}
 use Rattle.fed_http.proofs.Windows.{fits_in}
 use Rattle.fed_http.specs.Faults.{IsFault}
 use Rattle.fed_http.specs.Keeping.{Kept}
@@ -29,7 +30,7 @@ returns-clause-opens c =
     let same = c.in_ok-make_room.ensures.same in
     let text_same : made.text.items ≡ text = ap (λ (k : Kept). k.text) same in
     let body_same : made.body.items ≡ [] = ap (λ (k : Kept). k.body) same ∙ c.requires in
-    let now : State = record { place = place; head = found.len; text = c.truncate.new.self; start = Some found.message; body = made.body } in
+    let now : State = record { place = place; at = Size 0; head = found.len; text = c.truncate.new.self; start = Some found.message; body = made.body } in
     let head : found.len ≤ vec_len made.text = omega (arith, at.len, fits_in text (print_head at.head) (drop found.len text) at.reads.whole, ap length text_same, made.text.ok) in
     record {
       head = at.head;
@@ -37,5 +38,5 @@ returns-clause-opens c =
       len_is = at.len;
       begun = place_begun found.framing place c.in_ok-place.ensures.place;
       room = λ rest less. room_at place made now c.args.more rest c.in_ok-make_room.ensures.room less (omega (arith, c.truncate.ensures.len)) head c.truncate.ensures.capacity refl refl;
-      kept = opening_kept kind (kept_of now) text found place at c.in_ok-place.ensures.place refl refl (c.truncate.ensures.items ∙ ap (take found.len) text_same) refl body_same;
+      kept = opening_kept kind (kept_of now) text found place at c.in_ok-place.ensures.place refl refl (c.truncate.ensures.items ∙ ap (take found.len) text_same) refl body_same refl;
     }

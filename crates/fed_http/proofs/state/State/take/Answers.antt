@@ -1,6 +1,6 @@
 use Rattle.std.proofs.Common.{arith, ◌≡◌, ◌-◌, length, take, drop, sym, ap, subst}
 use Rattle.fed_http.specs.Keeping.{Kept}
-use Rattle.fed_http.specs.KeepingParts.{kept_of, HasRoomFor, BodyEnds, BodyWaits, Begun, TakeFails}
+use Rattle.fed_http.specs.KeepingParts.{HasRoomFor, BodyEnds, BodyWaits, Begun, TakeFails}
 use Rattle.fed_http.specs.declared.place.Place.{Place}
 use Rattle.fed_http.proofs.Windows.{to_end}
 use Rattle.fed_http.proofs.Lines.{on_some, on_none, passed_on}

@@ -1,10 +1,12 @@
 use Rattle.std.proofs.Common.{arith, ◌≡◌, ◌+◌, ◌-◌, ◌≤◌, length, take, drop, refl, sym, ap, ◌∙◌}
 use Rattle.std.specs.Prelude.{vec_len, vec_capacity}
 use Rattle.fed_http.specs.ChunkParts.{IsLineAt, LacksLine}
+use Rattle.fed_http.specs.TextPlaces.{IsWholeLine, GoesOnTo}
+use Rattle.fed_http.proofs.PlaceSteps.{late_on}
 use Rattle.fed_http.specs.KeepingParts.{kept_of, StepFails}
 use Rattle.fed_http.proofs.Windows.{to_end}
 use Rattle.fed_http.proofs.Lines.{on_some, on_none, passed_on}
-use Rattle.fed_http.proofs.LineSteps.{line_room, line_ends}
+use Rattle.fed_http.proofs.LineSteps.{line_room, line_ends, line_goes}
 use Rattle.fed_http.proofs.TextSteps.{line_still, line_fails, line_over, line_is_last, line_is_chunk}
 use Rattle.fed_http.proofs.state.State.take_line.Goals as goal
 
@@ -13,6 +15,23 @@ overflow_sub-before c = let r = line_room (kept_of c.args.self.now) c.requires.a
 
 pub overflow_sub-before-2 : goal.overflow_sub-before-2
 overflow_sub-before-2 c = let r = line_room (kept_of c.args.self.now) c.requires.at c.requires.sound in omega (arith, r.head, r.line, c.args.self.now.text.ok, c.len.ensures)
+
+pub goes_on-requires : goal.goes_on-requires
+goes_on-requires c = let r = line_room (kept_of c.args.self.now) c.requires.at c.requires.sound in omega (arith, r.head, r.line, c.args.self.now.text.ok, c.len.ensures)
+
+pub returns-in-Some-clause-stepped : goal.returns-in-Some-clause-stepped
+returns-in-Some-clause-stepped c =
+    let s = c.args.self.now in
+    let all = c.extend.new.to.items in
+    let slice = drop s.head all in
+    let n = c.len.result - s.head in
+    let more = take c.min-taken.result c.args.rest.now in
+    let new = c.in-Some.at in
+    let r = line_room (kept_of s) c.requires.at c.requires.sound in
+    let g = on_some (GoesOnTo s.at n more) c.in-Some.is c.goes_on.ensures in
+    line_still s _ c.args.rest.now slice c.min-taken.result c.requires.at refl (record { head = refl; start = refl }) (record { items = c.extend.ensures.items; len = c.extend.ensures.len; cap = c.extend.ensures.capacity }) (record { items = refl; len = refl; cap = refl })
+    (omega (arith, c.min-taken.ensures, c.line_len.ensures.within)) (λ came. omega (arith, c.min-taken.ensures, c.line_len.ensures.some came, r.head, r.line, s.text.ok, c.len.ensures)) c.requires.room refl
+    (λ kind bytes x. line_goes kind (kept_of s) bytes more all slice n new x c.extend.ensures.items refl (omega (arith, s.text.ok, c.len.ensures)) g) (λ before at. late_on IsWholeLine before more s.at new g.few g.late g.follows at)
 
 pub slice_bounds-find_line-count : goal.slice_bounds-find_line-count
 slice_bounds-find_line-count c = let r = line_room (kept_of c.args.self.now) c.requires.at c.requires.sound in omega (arith, r.head, c.args.self.now.text.ok, c.extend.ensures.len, c.deref.ensures.len)
@@ -31,15 +50,16 @@ returns-in_err-line-clause-fails c =
     passed_on c.from_residual.result (StepFails s c.args.rest.now) f c.from_residual.ensures.1
     (line_fails s c.args.rest.now all (take (length all - s.head) (drop s.head all)) c.min-taken.result f c.requires.at (c.deref.ensures.value ∙ c.extend.ensures.items) (to_end all s.head) c.in_err-line.ensures.bad)
 
-pub returns-in_default-clause-stepped : goal.returns-in_default-clause-stepped
-returns-in_default-clause-stepped c =
+pub returns-in_default-2-clause-stepped : goal.returns-in_default-2-clause-stepped
+returns-in_default-2-clause-stepped c =
     let s = c.args.self.now in
     let all = c.deref.result.now in
     let slice = take (length all - s.head) (drop s.head all) in
     let r = line_room (kept_of s) c.requires.at c.requires.sound in
     line_still s _ c.args.rest.now slice c.min-taken.result c.requires.at refl (record { head = refl; start = refl }) (record { items = c.extend.ensures.items; len = c.extend.ensures.len; cap = c.extend.ensures.capacity }) (record { items = refl; len = refl; cap = refl })
     (omega (arith, c.min-taken.ensures, c.line_len.ensures.within)) (λ came. omega (arith, c.min-taken.ensures, c.line_len.ensures.some came, r.head, r.line, s.text.ok, c.len.ensures)) c.requires.room
-    (to_end all s.head ∙ ap (drop s.head) c.deref.ensures.value) (on_none (LacksLine slice) c.in_default.is c.in_ok-line.ensures.unfinished)
+    (to_end all s.head ∙ ap (drop s.head) c.deref.ensures.value) (λ kind bytes x. on_none (LacksLine slice) c.in_default-2.is c.in_ok-line.ensures.unfinished)
+    (λ before at. late_on IsWholeLine before (take c.min-taken.result c.args.rest.now) s.at c.over-self.result c.over-self.ensures.few c.over-self.ensures.late c.over-self.ensures.follows at)
 
 pub overflow_sub-len : goal.overflow_sub-len
 overflow_sub-len c = let r = line_room (kept_of c.args.self.now) c.requires.at c.requires.sound in omega (arith, r.body, c.args.self.now.body.ok)
@@ -50,7 +70,7 @@ returns-then-line-len-clause-fails c =
     let all = c.deref.result.now in
     let slice = take (length all - s.head) (drop s.head all) in
     let r = line_room (kept_of s) c.requires.at c.requires.sound in
-    line_over s c.args.rest.now all slice c.min-taken.result c.in-Some.line c.requires.at (c.deref.ensures.value ∙ c.extend.ensures.items) (to_end all s.head) (on_some (IsLineAt slice) c.in-Some.is c.in_ok-line.ensures.found)
+    line_over s c.args.rest.now all slice c.min-taken.result c.in-Some-2.line c.requires.at (c.deref.ensures.value ∙ c.extend.ensures.items) (to_end all s.head) (on_some (IsLineAt slice) c.in-Some-2.is c.in_ok-line.ensures.found)
     (omega (arith, c.if-line-len.true, s.body.ok, r.body))
 
 pub overflow_sub-used : goal.overflow_sub-used
@@ -58,8 +78,8 @@ overflow_sub-used c =
     let s = c.args.self.now in
     let all = c.deref.result.now in
     let slice = take (length all - s.head) (drop s.head all) in
-    let line = on_some (IsLineAt slice) c.in-Some.is c.in_ok-line.ensures.found in
-    let e = line_ends (kept_of s) (take c.min-taken.result c.args.rest.now) all slice c.in-Some.line c.requires.at c.requires.sound (c.deref.ensures.value ∙ c.extend.ensures.items) (to_end all s.head) line in
+    let line = on_some (IsLineAt slice) c.in-Some-2.is c.in_ok-line.ensures.found in
+    let e = line_ends (kept_of s) (take c.min-taken.result c.args.rest.now) all slice c.in-Some-2.line c.requires.at c.requires.sound (c.deref.ensures.value ∙ c.extend.ensures.items) (to_end all s.head) line in
     omega (arith, e.head, e.beyond, s.text.ok, c.len.ensures)
 
 pub returns-then-line-eq0-clause-stepped : goal.returns-then-line-eq0-clause-stepped
@@ -68,8 +88,8 @@ returns-then-line-eq0-clause-stepped c =
     let all = c.deref.result.now in
     let slice = take (length all - s.head) (drop s.head all) in
     let r = line_room (kept_of s) c.requires.at c.requires.sound in
-    let line = on_some (IsLineAt slice) c.in-Some.is c.in_ok-line.ensures.found in
-    line_is_last s _ c.args.rest.now all slice c.min-taken.result (c.in-Some.line.len - (c.len.result - s.head)) (vec_len c.extend.new.to) (vec_capacity c.extend.new.to) c.in-Some.line c.requires.at c.requires.sound refl (record { head = refl; start = refl })
+    let line = on_some (IsLineAt slice) c.in-Some-2.is c.in_ok-line.ensures.found in
+    line_is_last s _ c.args.rest.now all slice c.min-taken.result (c.in-Some-2.line.len - (c.len.result - s.head)) (vec_len c.extend.new.to) (vec_capacity c.extend.new.to) c.in-Some-2.line c.requires.at c.requires.sound refl refl (record { head = refl; start = refl })
     (record { items = c.deref.ensures.value ∙ c.extend.ensures.items; len = c.extend.ensures.len; cap = c.extend.ensures.capacity }) (c.truncate.ensures.items ∙ ap (take s.head) (sym c.deref.ensures.value))
     (omega (arith, c.truncate.ensures.len, c.extend.ensures.len, r.head, s.text.ok)) c.truncate.ensures.capacity (record { items = refl; len = refl; cap = refl }) (omega (arith, c.min-taken.ensures, c.line_len.ensures.within)) c.requires.room (to_end all s.head) line
     c.if-line-eq0.true (omega (arith, s.text.ok, c.len.ensures))
@@ -80,11 +100,11 @@ returns-clause-stepped c =
     let all = c.deref.result.now in
     let slice = take (length all - s.head) (drop s.head all) in
     let r = line_room (kept_of s) c.requires.at c.requires.sound in
-    let line = on_some (IsLineAt slice) c.in-Some.is c.in_ok-line.ensures.found in
+    let line = on_some (IsLineAt slice) c.in-Some-2.is c.in_ok-line.ensures.found in
     let text = c.deref.ensures.value ∙ c.extend.ensures.items in
-    let e = line_ends (kept_of s) (take c.min-taken.result c.args.rest.now) all slice c.in-Some.line c.requires.at c.requires.sound text (to_end all s.head) line in
-    let size : vec_len c.truncate-2.new.self ≡ s.head + c.in-Some.line.len = omega (arith, c.truncate-2.ensures.len, c.extend.ensures.len, e.within, s.text.ok) in
-    line_is_chunk s _ c.args.rest.now all slice c.min-taken.result (c.in-Some.line.len - (c.len.result - s.head)) (vec_len c.extend.new.to) (vec_capacity c.extend.new.to) c.in-Some.line c.requires.at c.requires.sound refl (record { head = refl; start = refl })
-    (record { items = text; len = c.extend.ensures.len; cap = c.extend.ensures.capacity }) (c.truncate-2.ensures.items ∙ ap (take (s.head + c.in-Some.line.len)) (sym c.deref.ensures.value)) size c.truncate-2.ensures.capacity
+    let e = line_ends (kept_of s) (take c.min-taken.result c.args.rest.now) all slice c.in-Some-2.line c.requires.at c.requires.sound text (to_end all s.head) line in
+    let size : vec_len c.truncate-2.new.self ≡ s.head + c.in-Some-2.line.len = omega (arith, c.truncate-2.ensures.len, c.extend.ensures.len, e.within, s.text.ok) in
+    line_is_chunk s _ c.args.rest.now all slice c.min-taken.result (c.in-Some-2.line.len - (c.len.result - s.head)) (vec_len c.extend.new.to) (vec_capacity c.extend.new.to) c.in-Some-2.line c.requires.at c.requires.sound refl (record { head = refl; start = refl })
+    (record { items = text; len = c.extend.ensures.len; cap = c.extend.ensures.capacity }) (c.truncate-2.ensures.items ∙ ap (take (s.head + c.in-Some-2.line.len)) (sym c.deref.ensures.value)) size c.truncate-2.ensures.capacity
     (record { items = refl; len = refl; cap = refl }) (omega (arith, c.min-taken.ensures, c.line_len.ensures.within)) c.requires.room (to_end all s.head) line (omega (arith, c.if-line-eq0.false))
     (omega (arith, c.if-line-len.false, c.len-2.ensures, s.body.ok, r.body)) (omega (arith, s.text.ok)) (omega (arith, s.text.ok, c.len.ensures))
