@@ -80,6 +80,6 @@ for size in SIZES:
             fields = [length * SHIFT for length in range(8)] if piece >= 4_096 else [0]
             show(coding, size, fields, piece, repeats * SIZES[-1] // size)
 print("a long head")
-for piece, times in ((65_536, 8_000), (256, 400), (16, 40), (1, 4)):
+for piece, times in ((65_536, 8_000), (256, 2_000), (16, 1_000), (1, 400)):
     show("whole", 0, [LONG], piece, times)
 PY

@@ -51,9 +51,7 @@ fn read_once(alloc: Global, reader: &mut Reader, text: &[u8], piece: usize) -> R
 
 fn text_of(alloc: Global, reading: Reading) -> Result<Vec<u8>, Stop> {
     let mut text = Vec::from_slice(alloc, b"PUT /p HTTP/1.1\r\nA: ")?;
-    for _ in 0..reading.field {
-        text.push(b'b')?;
-    }
+    push_bytes(&mut text, b'b', reading.field)?;
     text.extend_from_slice(b"\r\n")?;
     if reading.chunked {
         push_chunks(alloc, &mut text, reading.size)?;
@@ -66,34 +64,24 @@ fn text_of(alloc: Global, reading: Reading) -> Result<Vec<u8>, Stop> {
 // The rest of the request, with its length.
 fn push_whole(alloc: Global, text: &mut Vec<u8>, size: usize) -> Result<(), Stop> {
     text.extend_from_slice(format!(in alloc; "Content-Length: {size}\r\n\r\n")?.as_bytes())?;
-    for _ in 0..size {
-        text.push(b'a')?;
-    }
-    Ok(())
+    push_bytes(text, b'a', size)
 }
 
 // The rest of the request, in chunks.
 fn push_chunks(alloc: Global, text: &mut Vec<u8>, size: usize) -> Result<(), Stop> {
     text.extend_from_slice(b"Transfer-Encoding: chunked\r\n\r\n")?;
-    for place in 0..size {
-        if place % CHUNK == 0 {
-            begin_chunk(alloc, text, place, size)?;
-        }
-        text.push(b'a')?;
-    }
-    if size > 0 {
+    for place in (0..size).step_by(CHUNK) {
+        let count = size.saturating_sub(place).min(CHUNK);
+        text.extend_from_slice(format!(in alloc; "{count:x}\r\n")?.as_bytes())?;
+        push_bytes(text, b'a', count)?;
         text.extend_from_slice(b"\r\n")?;
     }
     text.extend_from_slice(b"0\r\n\r\n")?;
     Ok(())
 }
 
-// The line of the chunk that begins at this place of the body, behind the end of the chunk before.
-fn begin_chunk(alloc: Global, text: &mut Vec<u8>, place: usize, size: usize) -> Result<(), Stop> {
-    if place > 0 {
-        text.extend_from_slice(b"\r\n")?;
-    }
-    let count = size.saturating_sub(place).min(CHUNK);
-    text.extend_from_slice(format!(in alloc; "{count:x}\r\n")?.as_bytes())?;
+// So many times one byte, at once: what a run without a request takes is little beside one with some.
+fn push_bytes(text: &mut Vec<u8>, byte: u8, count: usize) -> Result<(), Stop> {
+    text.resize(text.len().saturating_add(count), byte)?;
     Ok(())
 }
