@@ -1,6 +1,6 @@
 #!/bin/sh
 # Tries the wrong bodies of crates/NAME/mutants/ as `rt must-fail` tries those of must-fail/: the prover has to refuse each. It works in a
-# copy, over what earlier checks left in out/.
+# copy, over what earlier checks left in out/, and tells what it found of a crate before it begins with the next one.
 #
 #     tests/mutants.sh [CRATE..]      all crates that have some, where none is named
 set -eu
@@ -17,5 +17,9 @@ for mutants in crates/*/mutants; do
   named="$named $crate"
 done
 [ $# -eq 0 ] || named="$*"
-# shellcheck disable=SC2086
-rt must-fail $named
+status=0
+for crate in $named; do
+  echo "== $crate"
+  rt must-fail "$crate" || status=1
+done
+exit "$status"
