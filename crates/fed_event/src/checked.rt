@@ -1,5 +1,6 @@
 // Events that have passed the checks on receipt.
 ghost use Rattle.std.specs.Prelude.{◌≡◌, true, false, Err, IfOk, OnOk, IsErrOf, string_bytes, option_map, if◌then◌else◌};
+ghost use Rattle.std.specs.Arc.{arc_value};
 ghost use Rattle.serde_json.specs.Data.{Data};
 ghost use Rattle.fed_json.specs.JsonRef.{seen};
 ghost use Rattle.fed_event.specs.declared.checked.CheckFault.TheVariants.{Memory};
@@ -20,27 +21,29 @@ use fed_keys::Keys;
 use fed_redaction::signed_text;
 use std::alloc::Global;
 use std::marker::Model;
+use std::sync::Arc;
 use thiserror::Error;
 
 /// An event that has passed the checks on receipt that need no room (Server-Server API, "Checks performed on receipt of a PDU",
 /// checks 1 to 3): the event itself, or its redaction where the content hash does not fit, and whether the server of
-/// `join_authorised_via_users_server` has signed it.
+/// `join_authorised_via_users_server` has signed it. However many hold it, the event is there once.
 #[derive(Drop)]
 pub struct Checked {
-    event: Pdu,
+    event: Arc<Pdu>,
     authorised: bool,
 }
 
 impl Model for Checked {
+    ghost use Rattle.std.specs.Arc.{arc_value};
     ghost use Rattle.fed_event.specs.Checked.{CheckedEvent, checked_code, IsChecked};
 
     ghost Value = { CheckedEvent };
 
     ghost coded = { checked_code };
 
-    ghost view = { λ c. record { event = c.event; authorised = c.authorised } };
+    ghost view = { λ c. record { event = arc_value c.event; authorised = c.authorised } };
 
-    ghost invariant = { λ c. IsChecked (record { event = c.event; authorised = c.authorised }) };
+    ghost invariant = { λ c. IsChecked (record { event = arc_value c.event; authorised = c.authorised }) };
 }
 
 impl Checked {
@@ -61,12 +64,16 @@ impl Checked {
         self.authorised
     }
 
-    /// An equal value.
-    pub fn copy(&self, alloc: Global) -> Result<Checked, NoMemory>
+    /// An equal value, which shares the event.
+    ///
+    /// # Errors
+    ///
+    /// Where the event is shared by as many as can be counted, which is told as want of memory.
+    pub fn copy(&self, _alloc: Global) -> Result<Checked, NoMemory>
         ensures { IfOk result (λ c. c ≡ self.now) }
     {
         Ok(Checked {
-            event: self.event.copy(alloc)?,
+            event: Arc::try_clone(&self.event)?,
             authorised: self.authorised,
         })
     }
@@ -90,7 +97,7 @@ impl PartialEq for Checked {
         ensures one { IsProfile self.now.event }
         ensures another { IsProfile other.now.event }
     {
-        let is_same_event = self.event == other.event;
+        let is_same_event = *self.event == *other.event;
         is_same_event && self.authorised == other.authorised
     }
 }
@@ -176,14 +183,15 @@ pub fn check_signed<K: Keys>(
 }
 
 // The event where its content hash fits, else its redaction.
-fn kept(alloc: Global, event: Pdu) -> Result<Pdu, NoMemory>
-    ensures { IfOk result (λ kept. kept ≡ (if hash_fits_of event then event else redacted event)) }
+fn kept(alloc: Global, event: Pdu) -> Result<Arc<Pdu>, NoMemory>
+    ensures { IfOk result (λ kept. arc_value kept ≡ (if hash_fits_of event then event else redacted event)) }
 {
-    if event.hash_fits() {
-        Ok(event)
+    let event = if event.hash_fits() {
+        event
     } else {
-        event.redacted(alloc)
-    }
+        event.redacted(alloc)?
+    };
+    Ok(Arc::new(alloc, event)?)
 }
 
 // Whether the server of the sender has signed the event, whose signed text this is.

@@ -6,4 +6,4 @@ use Rattle.fed_event.proofs.checked.Checked.copy.Goals as goal
 pub invariant_of-result : goal.invariant_of-result
 invariant_of-result c =
     let P : Data → Type 0 = λ event. IsChecked (record { event = event; authorised = c.self.inside.authorised }) in
-    subst P (sym c.in_ok-copy.ensures) c.self.invariant
+    subst P (sym c.in_ok-try_clone.ensures) c.self.invariant
