@@ -44,7 +44,11 @@ fn draft(alloc: Global) -> Option<Draft> {
 
 // A message that a room makes and stores.
 fn message(alloc: Global, room: &mut Room) -> Option<Checked> {
-    let prepared = room.prepare(alloc, draft(alloc)?, &keys(alloc)?).ok()?;
+    made_of(alloc, room, draft(alloc)?, &keys(alloc)?)
+}
+
+fn made_of(alloc: Global, room: &mut Room, draft: Draft, keys: &StandIn) -> Option<Checked> {
+    let prepared = room.prepare(alloc, draft, keys).ok()?;
     let event = prepared.event().copy(alloc).ok()?;
     room.commit(prepared);
     Some(event)
