@@ -10,11 +10,9 @@
 //! - `setup`: what the server is made of
 //! - `server`: the server, from its hub to its end
 //! - `threads`: what each of its threads does
-//! - `door`: what all of them know
 //! - `stop`: why it ends early
 #![tactic(auto)]
 
-mod door;
 mod server;
 mod setup;
 mod stop;
@@ -31,7 +29,7 @@ use std::time::Clock;
 use stop::Stop;
 
 fn main(rt: HostRuntime) -> io::Result<ExitCode> {
-    match run(&rt, rt.alloc(), &mut rt.stdin().lock()) {
+    match run(&rt, rt.alloc(), rt.stdin().lock()) {
         Ok(()) => Ok(ExitCode::SUCCESS),
         Err(stop) => {
             eprintln!(rt; "fed_embedding: {stop}")?;
@@ -40,7 +38,7 @@ fn main(rt: HostRuntime) -> io::Result<ExitCode> {
     }
 }
 
-fn run<R, I>(rt: &R, alloc: Global, input: &mut I) -> Result<(), Stop>
+fn run<R, I>(rt: &R, alloc: Global, input: I) -> Result<(), Stop>
 where
     R: Threads
         + Wait
@@ -51,7 +49,7 @@ where
         + AllocGlobal
         + Net<Stream = TcpStream, Listener = TcpListener>
         + Sync,
-    I: BufRead + Send,
+    I: BufRead + Send + Drop,
 {
     let peer = peer(rt)?;
     let counts = server::run(rt, alloc, peer, input)?;

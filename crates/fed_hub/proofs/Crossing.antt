@@ -18,6 +18,7 @@ use Rattle.fed_keys.specs.declared.keys.Keys as keys
 use Rattle.fed_dest.proofs.list.List.TheSendSync as list
 use Rattle.fed_dest.proofs.server_index.ServerIndex.TheSendSync as index
 use Rattle.fed_wires.proofs.board.Board.TheSendSync as board
+use Rattle.fed_wires.proofs.board.Seat.TheSendSync as board_seat
 use Rattle.fed_hub_state.proofs.Crossing.{declared_send, declared_sync, parcel_send, receive_end_send, kept_room_send, seated_outbox_send, sending_journal_send}
 use Rattle.serde_json.proofs.value.Value.TheLaws.TheKnot
 use Rattle.fed_hub_told.specs.contracts.told.Told as told
@@ -29,6 +30,8 @@ use Rattle.fed_hub.specs.contracts.client_token.ClientToken as client
 use Rattle.fed_hub.specs.contracts.client_token.ClientToken.TheInside as client_inside
 use Rattle.fed_hub.specs.contracts.tokens.SenderToken as token
 use Rattle.fed_hub.specs.contracts.tokens.SenderToken.TheInside as token_inside
+use Rattle.fed_hub.specs.contracts.tokens.Seat as seat
+use Rattle.fed_hub.specs.contracts.tokens.Seat.TheInside as seat_inside
 use Rattle.fed_hub.specs.contracts.rooms.Rooms as rooms
 use Rattle.fed_hub.specs.contracts.rooms.Rooms.TheInside as rooms_inside
 use Rattle.fed_hub.specs.contracts.hub.Hub as hub
@@ -57,6 +60,9 @@ sender_token_send N names = view_send _ _ _ _ _ (declared_send (token_inside.the
     ),
   ),
 ))
+
+pub seat_send : (N : RattleType) (names : naming.Ghosts N.Denot) → IsSend (seat.the_row N names)
+seat_send N names = view_send _ _ _ _ _ (declared_send (seat_inside.the_type N names) (board_seat.the_send, (search sendable depth 60, tt)))
 
 rooms_sync : IsSync rooms.the_row
 rooms_sync = view_sync _ _ _ _ _ (declared_sync rooms_inside.the_type (

@@ -1,5 +1,5 @@
 -- The names of what was opened, and of a setup, are those of a hub of them.
-use Rattle.std.proofs.Common.{◌≡◌, ℕ, List, length, refl}
+use Rattle.std.proofs.Common.{◌≡◌, ℕ, List, length, refl, Option, None, Some}
 use Rattle.std.specs.FinMap as finite
 use Rattle.std.specs.Option.{IfSome}
 use Rattle.fed_dest.specs.List.{place_of}
@@ -26,3 +26,12 @@ named server list ids checks opened own each at rooms = record {
   same_checks = refl;
   reception = record { receives = refl; begins = refl };
 }
+
+-- a place, or 0 where there is none
+abbrev pub place_or_first : Option ℕ → ℕ
+place_or_first None = 0
+place_or_first (Some place) = place
+
+pub is_place : (place : Option ℕ) → IfSome place (λ it. place_or_first place ≡ it)
+is_place None = tt
+is_place (Some place) = refl

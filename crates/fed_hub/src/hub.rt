@@ -1,12 +1,14 @@
 // What the threads of a server share.
-ghost use Rattle.std.specs.Prelude.{◌≡◌, ◌<◌, ◌≤◌, is_some, length, slice_index};
+ghost use Rattle.std.specs.Prelude.{◌≡◌, ◌≢◌, ◌<◌, ◌≤◌, All, IfSome, IsTrue, Some, false, is_some, length, slice_index, true};
+ghost use Rattle.fed_dest.specs.List.{place_of};
+ghost use Rattle.fed_dest.specs.ServerSet.{is_among};
 ghost use Rattle.fed_wires.specs.Seat.{with_load};
 ghost use Rattle.fed_hub.specs.Setup.{has_room};
 
 use crate::reception::Reception;
 use crate::rooms::Rooms;
 use crate::tokens::Seat;
-use fed_dest::{List, ServerIndex};
+use fed_dest::{List, ServerIndex, ServerSet};
 use fed_event::Keys;
 use fed_hub_serving::{KeptInbox, ServingNaming};
 use fed_hub_state::{KeptRoom, Naming, SeatedOutbox, SendingJournal};
@@ -62,6 +64,29 @@ impl<N: Naming + ServingNaming, K: Keys + Drop> Hub<N, K> {
     /// The inbox under its lock, for who reads what it took and answered. Who holds the lock makes those wait that answer requests.
     pub fn inbox(&self) -> &Mutex<KeptInbox<N, PackedStore>> {
         self.reception.inbox()
+    }
+
+    /// The place of a listed server of this name, where it is another one than the own one.
+    pub fn other(&self, name: &str) -> Option<ServerIndex>
+        ensures within { IfSome result (λ dest. dest < length N.wires) }
+        ensures other { IfSome result (λ dest. dest ≢ N.own) }
+        ensures place { IfSome result (λ dest. place_of self.now.list name.now ≡ Some dest) }
+        ensures none { IfSome (place_of self.now.list name.now) (λ dest. dest ≢ self.now.own → is_some result ≡ true) }
+    {
+        let dest = self.list.find(name)?;
+        if dest == self.own {
+            return None;
+        }
+        Some(dest)
+    }
+
+    /// Whether an EDU may be offered to these: all are listed, and none is the own one.
+    pub fn has_others(&self, dests: &ServerSet) -> bool
+        ensures within { IsTrue result → All (λ dest. dest < length N.wires) dests.now }
+        ensures others { IsTrue result → is_among dests.now N.own ≡ false }
+    {
+        let count = self.list.len();
+        !dests.contains(self.own) && dests.as_slice().iter().all(|dest| dest.place() < count)
     }
 
     /// How many events for a destination were delivered, by one look at the board. It waits for nobody and takes no memory.

@@ -1,9 +1,11 @@
 //! A hub: a Matrix server, as its threads share it. Client threads offer events and ephemeral data units, a thread for each other server delivers
 //! them, others answer the requests that come, a thread for each room stores what they bring, and any thread reads how much was delivered.
 //!
-//! A caller makes an `Opened`, and calls a function that is generic over a `Naming` and a `ServingNaming` of its names. That function makes the
-//! `Hub` and the `Tokens`, lends the hub to its threads, and gives each its token.
+//! A caller says as a `Crew` what the threads of a hub do, and as an `Outcome` what comes of it: `run_crew` makes the hub, runs a thread for each
+//! token, and ends it. Who proves something of a hub's names makes an `Opened`, and calls a function that is generic over a `Naming` and a
+//! `ServingNaming` of these; that function makes the `Hub` and the `Tokens`.
 //!
+//! - `running`: `run_crew`, a hub from its beginning to its end, and `Outcome`; `crew`: `Crew`, what its threads do
 //! - `setup`: `Setup`, what a hub is made of; `opened`: `Opened`, what its threads will share, before it has names in a type; `wires`: new wires
 //! - `hub`: `Hub`; `making`: how it is made; `rooms`: its rooms, by their ids
 //! - `reception`: what receives the requests of other servers
@@ -23,6 +25,7 @@ mod carrier;
 mod client_token;
 mod collected;
 mod collecting;
+mod crew;
 mod faults;
 mod finishing;
 mod gate;
@@ -36,6 +39,7 @@ mod reception;
 mod report;
 mod rest;
 mod rooms;
+mod running;
 mod sending;
 mod serving;
 mod setup;
@@ -45,6 +49,7 @@ mod wires;
 pub use carrier::{Carrier, CarrierFault, FaultCount};
 pub use client_token::ClientToken;
 pub use collected::Collected;
+pub use crew::Crew;
 pub use faults::{EduFault, FinishFault, HubFault, SendFault};
 pub use fed_hub_rooms::{Ran, RoomToken};
 pub use fed_hub_serving::{ServeToken, Served, ServingNaming};
@@ -56,5 +61,6 @@ pub use hub::Hub;
 pub use offering::Sent;
 pub use opened::Opened;
 pub use report::Report;
+pub use running::{Outcome, run_crew};
 pub use setup::Setup;
 pub use tokens::{Seat, SenderToken, Tokens};

