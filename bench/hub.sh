@@ -38,13 +38,14 @@ def serving(threads, is_in_rooms):
     lines += [f"room {it} @u:a {' '.join(f'@u:{at}' for at in servers)}" for it in ROOMS]
     lines += [] if is_in_rooms else [f"absent a {' '.join(ROOMS)}"]
     lines += [f"packs {it} {it} a {each} {','.join(ROOMS)} @u:{it}" for it in servers[:threads]] + ["time", "& look a done"]
-    lines += [f"& store a {it} max" for it in ROOMS if is_in_rooms]
-    lines += [f"& bring a/{place + 2} {it}" for place, it in enumerate(servers[:threads])] + ["wait bring", "shut a", "wait store", "time", "raise done", "wait"]
-    wanted = [f"answered 200, {each} times"] * threads + ["shut down"] + ["drained"] * (8 if is_in_rooms else 0) + ["held"]
-    stored = each * threads * 50 // 8 // threads
+    # The transactions of each server are of one room after another.
+    stored = [(each + len(ROOMS) - 1 - place) // len(ROOMS) * 50 for place in range(len(ROOMS))]
+    lines += [f"& store a {it} {count * threads}" for it, count in zip(ROOMS, stored) if is_in_rooms]
+    lines += [f"& bring a/{place + 2} {it}" for place, it in enumerate(servers[:threads])] + ["wait bring", "wait store", "time", "raise done", "wait"]
+    wanted = [f"answered 200, {each} times"] * threads + ["turns spent"] * (8 if is_in_rooms else 0) + ["held"]
     if is_in_rooms:
         lines += [f"stored a {room} {it}" for room in ROOMS for it in servers[:threads]]
-        wanted += [f"stored {stored} of {stored}"] * (8 * threads)
+        wanted += [f"stored {count} of {count}" for count in stored for _ in range(threads)]
     return lines, wanted
 
 
