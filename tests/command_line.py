@@ -374,7 +374,7 @@ def cases():
 
 
 def ends(program, words, **streams):
-    return subprocess.run(["fed", *words], executable=program, stderr=subprocess.PIPE, timeout=60, **streams)
+    return subprocess.run(["fed", *words], executable=program, stderr=subprocess.PIPE, timeout=int(os.environ.get("PATIENCE", 60)), **streams)
 
 
 def prints(program, words, given, out, err, status):
