@@ -1,5 +1,5 @@
 -- What contracts see of a seat: its board, the words that it owns, the last value that it found in each word, and how often it loaded one.
-use Rattle.std.specs.Prelude.{◌≡◌, ℕ, ◌+◌, List, length, max, replicate, slice_set}
+use Rattle.std.specs.Prelude.{◌≡◌, ℕ, ◌+◌, ◌≤◌, List, All, drop, length, max, replicate, slice_index, slice_set, take}
 use mathlib.Core.Option.{some}
 use lib.ListN.{get_elem?}
 use Rattle.fed_wires.specs.declared.board_rule.Owned.{Owned}
@@ -16,9 +16,12 @@ pub record Seated : Type 0 where
 abbrev pub one_word : ℕ → ℕ → Owned
 one_word word count = owned word (word + 1) count
 
--- owns one word
+-- owns one word; owns none
 abbrev pub IsOwner : Seated → Type 0
 IsOwner s = s.owned.until ≡ s.owned.from + 1
+
+abbrev pub IsReader : Seated → Type 0
+IsReader s = s.owned ≡ owned 0 0 0
 
 -- a new seat, which has seen the words as they began
 abbrev pub new_seat : BoardId → Owned → Seated
@@ -46,4 +49,19 @@ AreReaders board n seats = AreNewSeats board n (λ _. owned 0 0 0) seats
 
 -- all are seats at the board
 abbrev pub AreAt : BoardId → List Seated → Type 0
-AreAt board seats = (k : ℕ) (s : Seated) → get_elem? seats k ≡ some s → s.board ≡ board
+AreAt board seats = All (λ (s : Seated). s.board ≡ board) seats
+
+-- They are all seats at a board with so many for readers: first those of the owners, one for each word, and then those of the readers.
+pub record AreAll (board : BoardId) (readers : ℕ) (seats : List Seated) : Type 0 where
+  pub count : length seats ≡ word_count board + readers
+  pub same_board : AreAt board seats
+  pub owners_first : All IsOwner (take (word_count board) seats)
+  pub then_readers : All IsReader (drop (word_count board) seats)
+
+-- what was seen in an owner's word is no more than the owner's count
+abbrev pub HasShown : List ℕ → Seated → Type 0
+HasShown seen owner = slice_index seen owner.owned.from ≤ owner.owned.count
+
+-- no seat has seen more in a word than the word's owner has raised it to
+abbrev pub NoneSawMore : List Seated → Type 0
+NoneSawMore seats = All (λ owner. IsOwner owner → All (λ s. HasShown s.seen owner) seats) seats

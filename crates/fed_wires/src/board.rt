@@ -1,8 +1,8 @@
 // A board of counts, and the seats at it.
-ghost use Rattle.std.specs.Prelude.{◌≡◌, ℕ, ◌+◌, ◌<◌, ◌≤◌, length, slice_index, IfOk};
+ghost use Rattle.std.specs.Prelude.{◌≡◌, ℕ, ◌<◌, ◌≤◌, All, length, slice_index, take, IfOk};
 ghost use Rattle.fed_wires.specs.Board.{word_count};
 ghost use Rattle.fed_wires.specs.BoardRule.{Owns};
-ghost use Rattle.fed_wires.specs.Seat.{IsOwner, AreAt, AreOwners, AreReaders, with_load, with_raise};
+ghost use Rattle.fed_wires.specs.Seat.{IsOwner, AreAll, AreAt, AreOwners, AreReaders, HasShown, NoneSawMore, with_load, with_raise};
 
 use crate::board_rule::{Admit, Counts, Deal, End, Judge, Loads, Look, Own, Raises};
 use atomic_table::{Seat as Token, Table};
@@ -119,11 +119,14 @@ impl Board {
         shared.join_seat::<Own>(&mut owner.token, own);
     }
 
-    /// Ends the board, and all seats at it with it.
+    /// Ends the board, and all seats at it with it: the owners' and, behind them, the readers'. By as many loads as there are words for each seat
+    /// it compares what that one has seen with what the words are: no seat was ever shown more in a word than its owner had raised it to. It
+    /// waits for nobody and takes no memory.
     pub fn finish(self, mut seats: Vec<Seat>)
-        requires board { AreAt self.id seats.items }
-        requires all { length seats.items ≡ word_count self.id + self.readers }
+        requires all { AreAll self.id self.readers seats.items }
+        ensures shown { NoneSawMore seats.items }
     {
+        self.compare_all(&mut seats);
         let Board { table, readers: _ } = self;
         let Some(first) = seats.pop() else {
             return;
@@ -136,5 +139,40 @@ impl Board {
             let Seat { word: _, token } = seat;
             table.shared.join_seat::<End>(&mut root, token);
         }
+    }
+
+    // Compares what each of all seats has seen in each word with the count of the word's owner.
+    fn compare_all(&self, seats: &mut [Seat])
+        requires all { AreAll self.now.id self.now.readers seats.old }
+        ensures same { seats.new ≡ seats.old }
+        ensures shown { NoneSawMore seats.old }
+    {
+        let words = seats.len() - self.readers;
+        for place in 0..seats.len() {
+            let mut looker = self.looker(&mut seats[place]);
+            self.compare_each(seats, words, &mut looker);
+        }
+    }
+
+    // Compares what a seat has seen in the words of the first seats, which are their owners, with their counts.
+    fn compare_each(&self, seats: &mut [Seat], words: usize, looker: &mut Seat)
+        requires board { AreAt self.now.id seats.old × (looker.old.board ≡ self.now.id) }
+        requires owners { (words ≤ length seats.old) × All IsOwner (take words seats.old) }
+        ensures same { (seats.new ≡ seats.old) × (looker.new ≡ looker.old) }
+        ensures below { All (HasShown looker.old.seen) (take words seats.old) }
+    {
+        for word in 0..words {
+            self.compare(&mut seats[word], looker);
+        }
+    }
+
+    // One more seat, which has seen what this one has.
+    fn looker(&self, seat: &mut Seat) -> Seat
+        requires board { seat.old.board ≡ self.now.id }
+        ensures same { seat.new ≡ seat.old }
+        ensures seen { (result.board ≡ seat.old.board) × (result.seen ≡ seat.old.seen) }
+    {
+        let token = self.table.shared.split_seat::<Admit>(&mut seat.token);
+        Seat { word: 0, token }
     }
 }

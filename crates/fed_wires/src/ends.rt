@@ -1,26 +1,33 @@
 // The two ends of a wire.
-ghost use Rattle.std.specs.Prelude.{◌≡◌, ℕ, ◌+◌, ◌++◌, ◌≤◌, List, [], ◌∷◌, length, IsTrue, IfOk, OnOk, IfErr};
+ghost use Rattle.std.specs.Prelude.{◌≡◌, ℕ, ◌+◌, ◌++◌, ◌<◌, ◌≤◌, ◌↔◌, List, [], ◌∷◌, length, IsTrue, IfOk, OnOk, IfErr};
 ghost use mathlib.Core.List.{IsPrefix};
 ghost use Rattle.fed_wires.specs.Wire.{Follows};
-ghost use Rattle.fed_wires.specs.SendEnd.{new_sender, with_sent, with_returned};
+ghost use Rattle.fed_wires.specs.SendEnd.{new_sender, with_sent, with_returned, with_room, with_credit};
 ghost use Rattle.fed_wires.specs.ReceiveEnd.{new_receiver};
 ghost use Rattle.fed_wires.specs.Received.{Receives as ReceivesAs, IsWaited};
 
+use crate::credits::Credit;
 use crate::numbering::Numbering;
 use crate::received::Received;
 use crate::rule::{CAPACITY, Compares, Log, Meeting, Parting, Receives, Relay, Returned, Sends};
-use crossbeam_channel::{Pass, RuledReceiver, RuledSender, TryRecvError, bounded_with};
+use crossbeam_channel::{
+    Pass, Receiver, RuledReceiver, RuledSender, Sender, TryRecvError, bounded, bounded_with,
+};
 use std::alloc::{AllocError, Global};
 use std::marker::Model;
 use std::sync::Wait;
 
-/// The end of a wire that sends.
+/// The end of a wire that sends. It has credits in hand, one for each message that the wire is known to have room for: a new end has
+/// [`CAPACITY`], a message that is sent takes one, and the other end gives one back for each message that it receives.
 ///
-/// Contracts see its wire, the list of all that was sent over it, and how many messages were handed back.
+/// Contracts see its wire, the list of all that was sent over it, how many messages were handed back, and how many credits are in hand.
 #[derive(Drop)]
 pub struct SendEnd<T: Drop, N: Numbering<T>> {
     channel: RuledSender<T, Log<T>, Relay<T, N>>,
     pass: Pass<T, Log<T>>,
+    // The credits that came back and are in nobody's hand.
+    pub(crate) credits: Receiver<()>,
+    room: usize,
 }
 
 impl<T: Drop, N: Numbering<T>> Model for SendEnd<T, N> {
@@ -33,7 +40,7 @@ impl<T: Drop, N: Numbering<T>> Model for SendEnd<T, N> {
 
     ghost Value = { Sender T };
 
-    ghost view = { λ s. sender_of s.pass };
+    ghost view = { λ s. sender_of s.pass s.room };
 
     ghost invariant = { λ s. IsSeatAt (sends_on s.channel) s.pass × ((log_of s.pass).sends ≡ true) × (ruled_capacity (sends_on s.channel) ≡ CAPACITY) };
 }
@@ -46,6 +53,8 @@ pub struct ReceiveEnd<T: Drop, N: Numbering<T>> {
     channel: RuledReceiver<T, Log<T>, Relay<T, N>>,
     pass: Pass<T, Log<T>>,
     gone: bool,
+    // Where credits are given back. It ends behind the channel: whoever finds it gone is handed back all that it sends.
+    back: Sender<()>,
 }
 
 impl<T: Drop, N: Numbering<T>> Model for ReceiveEnd<T, N> {
@@ -62,10 +71,11 @@ impl<T: Drop, N: Numbering<T>> Model for ReceiveEnd<T, N> {
     ghost invariant = { λ r. IsSeatAt (receives_on r.channel) r.pass × ((log_of r.pass).receives ≡ true) };
 }
 
-/// What is left of an end that sends and has ended. It has no bytes, and contracts see in it what they saw in the end.
+/// What is left of an end that sends and has ended. Contracts see in it what they saw in the end.
 #[derive(Drop)]
 pub struct SendPass<T> {
     pass: Pass<T, Log<T>>,
+    room: usize,
 }
 
 impl<T> Model for SendPass<T> {
@@ -73,7 +83,7 @@ impl<T> Model for SendPass<T> {
 
     ghost Value = { Sender T };
 
-    ghost view = { λ s. sender_of s.pass };
+    ghost view = { λ s. sender_of s.pass s.room };
 }
 
 /// What is left of an end that receives and has ended. Contracts see in it what they saw in the end.
@@ -102,6 +112,7 @@ pub fn wire<T: Drop, N: Numbering<T>>(
     ensures send { IfOk result (λ r. r.0 ≡ new_sender r.0.wire) }
     ensures receive { IfOk result (λ r. r.1 ≡ new_receiver r.0.wire) }
 {
+    let (back, credits) = bounded(alloc, CAPACITY)?;
     let (sender, receiver, mut pass) = bounded_with::<T, Log<T>, Relay<T, N>, Global>(
         alloc, CAPACITY,
     )?;
@@ -110,23 +121,68 @@ pub fn wire<T: Drop, N: Numbering<T>>(
         SendEnd {
             channel: sender,
             pass,
+            credits,
+            room: CAPACITY,
         },
         ReceiveEnd {
             channel: receiver,
             pass: other,
             gone: false,
+            back,
         },
     ))
 }
 
 impl<T: Drop, N: Numbering<T>> SendEnd<T, N> {
-    /// Sends a message, and waits while the wire is full. The message has to fit the number that it gets.
+    /// Takes in credits that came back, without waiting, until so many are in hand, and says whether they are. Where the other end is gone
+    /// there is always room: what is sent comes back then, and waits for nobody.
+    ///
+    /// A credit that is just being given back may be missed. It is found by the next call, or by who waits for one ([`Credits`]).
+    ///
+    /// [`Credits`]: crate::Credits
+    pub fn has_room<R: Wait>(&mut self, rt: &R, count: usize) -> bool
+        ensures same { self.new ≡ with_room self.old self.new.room }
+        ensures more { self.old.room ≤ self.new.room }
+        ensures told { IsTrue result ↔ (count ≤ self.new.room) }
+    {
+        while self.room < count {
+            match self.credits.try_recv(rt) {
+                Ok(()) => self.room += 1,
+                Err(TryRecvError::Empty) => return false,
+                Err(TryRecvError::Disconnected) => self.room = count,
+            }
+        }
+        true
+    }
+
+    /// Waits for a credit and takes it in, or waits until the other end is gone. It is for who has this end alone: one that lies under a lock
+    /// is waited for by [`Credits`](crate::Credits), without the lock.
+    pub fn wait<R: Wait>(&mut self, rt: &R)
+        ensures same { self.new ≡ with_room self.old self.new.room }
+        ensures more { self.old.room ≤ self.new.room }
+    {
+        if self.credits.recv(rt).is_ok() {
+            self.room = self.room.saturating_add(1);
+        }
+    }
+
+    /// Takes in a credit that was waited for.
+    pub fn give(&mut self, _credit: Credit)
+        ensures given { self.new ≡ with_credit self.old }
+        ensures more { self.old.room ≤ self.new.room }
+    {
+        self.room = self.room.saturating_add(1);
+    }
+
+    /// Sends a message. The message has to fit the number that it gets, and a credit for it is in hand: so the wire has room, and the call
+    /// waits for nobody but the thread that is just taking an earlier message out of its slot.
     ///
     /// # Errors
     ///
-    /// The message comes back where the other end is gone. It was not sent then.
+    /// The message comes back where the other end is gone. It was not sent then, and the credit stays in hand.
     pub fn send<R: Wait>(&mut self, rt: &R, message: T) -> Result<(), T>
-        requires { N.fits (length self.old.sent + 1) message }
+        requires fits { N.fits (length self.old.sent + 1) message }
+        requires room { 0 < self.old.room }
         ensures sent { OnOk result (self.new ≡ with_sent self.old message) }
         ensures returned { IfErr result (λ m. (m ≡ message) × (self.new ≡ with_returned self.old)) }
     {
@@ -134,7 +190,10 @@ impl<T: Drop, N: Numbering<T>> SendEnd<T, N> {
             .channel
             .send_as::<Sends, R>(rt, &mut self.pass, message)
         {
-            Ok(()) => Ok(()),
+            Ok(()) => {
+                self.room -= 1;
+                Ok(())
+            }
             Err(error) => {
                 let _idle = self.channel.another::<Returned>(&mut self.pass);
                 Err(error.into_inner())
@@ -159,14 +218,20 @@ impl<T: Drop, N: Numbering<T>> SendEnd<T, N> {
     pub fn finish(self) -> SendPass<T>
         ensures { result ≡ self }
     {
-        let SendEnd { channel, pass } = self;
+        let SendEnd {
+            channel,
+            pass,
+            credits: _,
+            room,
+        } = self;
         drop(channel);
-        SendPass { pass }
+        SendPass { pass, room }
     }
 }
 
 impl<T: Drop, N: Numbering<T>> ReceiveEnd<T, N> {
-    /// Receives the first message that the wire holds. With `wait` it waits for one, or until the other end is gone.
+    /// Receives the first message that the wire holds, and gives a credit back for it. With `wait` it waits for one, or until the other end is
+    /// gone.
     pub fn receive<R: Wait>(&mut self, rt: &R, wait: bool) -> Received<T>
         ensures received { ReceivesAs N.fits result self.old self.new }
         ensures waited { IsTrue wait → IsWaited result }
@@ -180,7 +245,10 @@ impl<T: Drop, N: Numbering<T>> ReceiveEnd<T, N> {
                 .try_recv_as::<Receives<N>, R>(rt, &mut self.pass)
         };
         match found {
-            Ok(message) => Received::Message(message),
+            Ok(message) => {
+                give_back(rt, &self.back);
+                Received::Message(message)
+            }
             Err(TryRecvError::Empty) => Received::Empty,
             Err(TryRecvError::Disconnected) => {
                 self.gone = true;
@@ -204,8 +272,16 @@ impl<T: Drop, N: Numbering<T>> ReceiveEnd<T, N> {
             channel,
             pass,
             gone,
+            back,
         } = self;
         drop(channel);
+        drop(back);
         ReceivePass { pass, gone }
     }
+}
+
+// Gives a credit back. There are no more credits than the channel has places, so this waits for nobody but the thread that is just taking
+// one out. Where all who could take it are gone, it is let go.
+fn give_back<R: Wait>(rt: &R, back: &Sender<()>) {
+    let _ = back.send(rt, ());
 }

@@ -1,6 +1,7 @@
 //! Wires, over which one thread hands messages to another, and a board of counts that many threads read.
 //!
 //! - `ends`: `wire`, which makes a wire, and its ends, `SendEnd` and `ReceiveEnd`
+//! - `credits`: `Credits`, where threads wait for room in wires, and `Credit`, room for one message
 //! - `received`: `Received`, what a receive found
 //! - `numbering`: `Numbering`, which message may be the k-th of a wire
 //! - `board`: `Board`, the words, and `Seat`, through which a thread loads and raises them
@@ -9,12 +10,14 @@
 
 mod board;
 mod board_rule;
+mod credits;
 mod ends;
 mod numbering;
 mod received;
 mod rule;
 
 pub use board::{Board, Seat};
+pub use credits::{Credit, Credits};
 pub use ends::{ReceiveEnd, ReceivePass, SendEnd, SendPass, wire};
 pub use numbering::{AnyMessage, Numbering};
 pub use received::Received;
