@@ -2,6 +2,7 @@
 use Rattle.std.proofs.Common.{arith, ◌≡◌, ◌≢◌, ℕ, Bool, true, false, ◌||◌, List, [], ◌∷◌, ◌++◌, Result, Ok, Err, set, Option, Some, refl, sym, ap, ◌∙◌, subst, append-nil, length-set, true≢false}
 use Rattle.std.specs.List.{slice_get}
 use Rattle.std.specs.Option.{option_map, option_to_list}
+use Rattle.std.specs.Prelude.{IfErr}
 use Rattle.std.specs.Result.{IsErr, IsErrAnd}
 use Rattle.std.proofs.lemmas.Bool.{ne_eqb}
 use Rattle.fed_journal.specs.declared.entry.Cause.{Cause}
@@ -10,6 +11,8 @@ use Rattle.fed_journal.specs.declared.entry.Entry.{Entry}
 use Rattle.fed_journal.specs.declared.entry.Entry.TheVariants.{Close}
 use Rattle.fed_journal.specs.declared.fault.JournalFault.{JournalFault}
 use Rattle.fed_journal.specs.declared.fault.JournalFault.TheVariants.{Memory, Limit}
+use Rattle.fed_hub_state.specs.declared.sending_journal.CloseFault.{CloseFault}
+use Rattle.fed_hub_state.specs.CloseFault.{close_fault_of, CloseFullIsWithin}
 use Rattle.fed_journal.specs.declared.parcel.Load.TheVariants.{End}
 use Rattle.fed_journal.specs.declared.parcel.Parcel.{Parcel}
 use Rattle.fed_journal.specs.Place.{PlaceValue}
@@ -22,7 +25,8 @@ use Rattle.fed_hub_state.specs.Closing.{Closes, ClosesOpen, asked, lost, no_plac
 use Rattle.fed_hub_state.specs.NoRoom.{HasNoRoom}
 use Rattle.fed_hub_state.specs.SendingJournal.{SendingState}
 use Rattle.fed_hub_state.specs.Spreading.{HasSent, AreSent}
-use Rattle.fed_hub_state.proofs.Spreads.{set_all, lost-more, or_false}
+use Rattle.fed_hub_state.proofs.Places.{set_all}
+use Rattle.fed_hub_state.proofs.Spreads.{lost-more, or_false}
 
 loses_other : (cause : Cause) (x d : ℕ) → d ≢ x → loses d (Close x cause) ≡ false
 loses_other Asked x d apart = refl
@@ -100,10 +104,18 @@ pub stays_closed : (entries more : List Entry) (d : ℕ) → is_closed entries d
 stays_closed entries more d is = is_closed-more entries more d ∙ ap (λ b. b || is_closed more d) is
 
 -- what is told where there is no room
-pub no_room_told : (d : ℕ) (old : SendingState) (fault : JournalFault) (told : Result Bool JournalFault) → is_closed old.entries d ≡ false → HasNoRoom old.entries 0 fault → IsErr told → IsErrAnd told (λ t. t ≡ fault) → Closes d old told old
+pub no_room_told : (d : ℕ) (old : SendingState) (fault : JournalFault) (told : Result Bool CloseFault) → is_closed old.entries d ≡ false → HasNoRoom old.entries 0 fault → IsErr told → IsErrAnd told (λ t. t ≡ close_fault_of fault) → Closes d old told old
 no_room_told d old fault (Ok b) running room errs is = absurd (true≢false (sym errs))
 no_room_told d old fault (Err t) running room errs is = subst (λ f. Closes d old (Err f) old) (sym is) (by fault room)
   where
-    by : (fault : JournalFault) → HasNoRoom old.entries 0 fault → Closes d old (Err fault) old
+    by : (fault : JournalFault) → HasNoRoom old.entries 0 fault → Closes d old (Err (close_fault_of fault)) old
     by Limit room = no_place running room
     by Memory room = no_memory running room
+
+pub fault_within : {X : Type 0} (count : ℕ) (fault : JournalFault) (told : Result X CloseFault) → IsErrAnd told (λ t. t ≡ close_fault_of fault) → IfErr told (CloseFullIsWithin count)
+fault_within count fault (Ok x) is = tt
+fault_within count fault (Err t) is = subst (CloseFullIsWithin count) (sym is) (by fault)
+  where
+    by : (fault : JournalFault) → CloseFullIsWithin count (close_fault_of fault)
+    by Limit = tt
+    by Memory = tt

@@ -26,11 +26,12 @@ use Rattle.fed_wires.specs.WireId.{WireId}
 use Rattle.fed_hub_state.specs.declared.unplaced.Unplaced.{Unplaced}
 use Rattle.fed_hub_state.specs.ClientToken.{ClientShare, event_count, edu_count, with_told}
 use Rattle.fed_hub_state.specs.Entering.{Enters, no_place, no_memory, entered}
+use Rattle.std.specs.Prelude.{IfErr}
 use Rattle.std.specs.Result.{IsErr, IsErrAnd}
 use Rattle.fed_hub_state.specs.declared.sending_journal.EnterFault.{EnterFault}
 use Rattle.fed_journal.specs.declared.fault.JournalFault.{JournalFault}
 use Rattle.fed_journal.specs.declared.fault.JournalFault.TheVariants.{Memory, Limit}
-use Rattle.fed_hub_state.specs.EnterFault.{enter_fault_of}
+use Rattle.fed_hub_state.specs.EnterFault.{enter_fault_of, FullIsWithin}
 use Rattle.fed_hub_state.specs.NoRoom.{HasNoRoom}
 use Rattle.fed_hub_state.specs.SendingJournal.{SendingState}
 use Rattle.fed_hub_state.specs.Spreading.{AreSent, AreSentTo, AreAll, dests_of}
@@ -216,3 +217,11 @@ no_room_told offered dests old client count fault (Err t) same running room errs
     by : (fault : JournalFault) → HasNoRoom old.entries count fault → Enters offered dests old client (Err (enter_fault_of fault)) old client
     by Limit room = no_place running (ap (has_place old.entries) (sym same) ∙ room)
     by Memory room = no_memory running (ap (has_place old.entries) (sym same) ∙ room)
+
+pub fault_within : (count : ℕ) (fault : JournalFault) (told : Result ℕ EnterFault) → IsErrAnd told (λ t. t ≡ enter_fault_of fault) → IfErr told (FullIsWithin count)
+fault_within count fault (Ok x) is = tt
+fault_within count fault (Err t) is = subst (FullIsWithin count) (sym is) (by fault)
+  where
+    by : (fault : JournalFault) → FullIsWithin count (enter_fault_of fault)
+    by Limit = tt
+    by Memory = tt

@@ -1,3 +1,5 @@
+pub mod Places
+pub mod WireRooms
 pub mod Spreads
 pub mod Entered
 pub mod Closed

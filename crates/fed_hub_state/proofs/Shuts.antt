@@ -21,7 +21,12 @@ use Rattle.fed_hub_state.specs.SendingJournal.{SendingState}
 use Rattle.fed_hub_state.specs.Spreading.{HasSent, AreSent}
 use Rattle.fed_hub_state.specs.ShuttingDown.{is_other_open, others_open, has_places, HasNoPlaces, AreClosedInTurn, one_more, ShutsDown}
 use Rattle.fed_hub_state.specs.ShuttingDownParts.{ClosesOther, left, closed, IsBeingShut}
-use Rattle.fed_hub_state.proofs.Spreads.{or_true, or_false, open_closes, set_all}
+use Rattle.fed_hub_state.specs.WireRoom.{HaveRoom}
+use Rattle.fed_hub_state.specs.declared.sending_journal.CloseFault.{CloseFault}
+use Rattle.fed_hub_state.specs.CloseFault.{close_fault_of}
+use Rattle.fed_hub_state.proofs.Places.{set_all}
+use Rattle.fed_hub_state.proofs.WireRooms.{room_elsewhere}
+use Rattle.fed_hub_state.proofs.Spreads.{or_true, or_false, open_closes}
 use Rattle.fed_hub_state.proofs.Closed as closings
 
 pub one_number_more : (a n : ℕ) → range_with_len a (suc n) ≡ range_with_len a n ++ (a + n) ∷ []
@@ -77,15 +82,22 @@ now_closed : (entries : List Entry) (x : ℕ) (cause : Cause) → is_closed (ent
 now_closed entries x cause = is_closed-more entries (Close x cause ∷ []) x ∙ ap (λ b. is_closed entries x || b) (is_closed-one x (Close x cause) ∙ eq-eqb x x refl) ∙ or_true (is_closed entries x)
 
 module _ (wires : List (WireId Parcel)) (own count : ℕ) (before : JournalState) where
-  pub begins : (ends : List (Sender Parcel)) → AreSent wires before.entries ends → length (others_open count own before.entries) ≤ before.reserved → IsBeingShut wires own count 0 before before ends
-  begins ends sent room = record {
+  pub begins : (ends : List (Sender Parcel)) → AreSent wires before.entries ends → length (others_open count own before.entries) ≤ before.reserved
+      → HaveRoom (λ d. is_other_open own before.entries d ≡ true) ends → IsBeingShut wires own count 0 before before ends
+  begins ends sent room credits = record {
     turn = AreClosedInTurn.none;
     sent = sent;
     room = omega (arith, room);
     grown = omega arith;
     rest = λ d _. refl;
     shut = λ d less. absurd (omega arith);
+    credits = λ d end to here. credits d end to.1 here;
   }
+
+  -- there is room in the wire of the next server
+  pub credit_next : (i : ℕ) (journal : JournalState) (ends : List (Sender Parcel)) (end : Sender Parcel) → IsBeingShut wires own count i before journal ends → slice_get ends i ≡ Some end
+      → is_other_open own journal.entries i ≡ true → 0 < end.room
+  credit_next i journal ends end being here is = being.credits i end ((omega arith, ap (λ (b : Bool). not (i == own) && not b) (sym (being.rest i (omega arith))) ∙ is)) here
 
   -- there is room for the closing of the outbox of the next server
   pub has_room_for : (i : ℕ) (journal : JournalState) (ends : List (Sender Parcel)) → i < count → IsBeingShut wires own count i before journal ends → is_other_open own journal.entries i ≡ true → 0 < journal.reserved
@@ -116,6 +128,10 @@ module _ (wires : List (WireId Parcel)) (own count : ℕ) (before : JournalState
     as_before : is_other_open own before.entries i ≡ is_other_open own journal.entries i
     as_before = ap (λ (b : Bool). not (i == own) && not b) (sym (being.rest i (omega arith)))
 
+    credits_then : (new : Sender Parcel) → HaveRoom (λ d. (i + 1 ≤ d) × (is_other_open own before.entries d ≡ true)) (set ends i new)
+    credits_then new = room_elsewhere (λ d. (i ≤ d) × (is_other_open own before.entries d ≡ true)) (λ d. (i + 1 ≤ d) × (is_other_open own before.entries d ≡ true)) ends i new being.credits
+        (λ d to. ((λ same. absurd (omega (arith, to.0, same))), (omega (arith, to.0), to.1)))
+
     left_as_it_is : is_other_open own journal.entries i ≡ false → IsBeingShut wires own count (i + 1) before journal (set ends i end)
     left_as_it_is is =
         let same = others_without own i before.entries (as_before ∙ is) in
@@ -130,6 +146,7 @@ module _ (wires : List (WireId Parcel)) (own count : ℕ) (before : JournalState
           grown = being.grown ∙ ap (λ (dests : List ℕ). length before.entries + length dests) (sym same);
           rest = λ d more. being.rest d (omega (arith, more));
           shut = λ d less other. by d less other (cases_eq d i);
+          credits = credits_then end;
         }
       where
         by : (d : ℕ) → d < i + 1 → d ≢ own → (d ≡ i) ⊎ (d ≢ i) → is_closed journal.entries d ≡ true
@@ -156,6 +173,7 @@ module _ (wires : List (WireId Parcel)) (own count : ℕ) (before : JournalState
           grown = ap length entries ∙ length-append journal.entries (Close i cause ∷ []) ∙ ap (λ n. n + 1) being.grown ∙ add_assoc (length before.entries) (length (others_open i own before.entries)) 1 ∙ ap (λ n. length before.entries + n) (sym longer);
           rest = λ d more. let apart : d ≢ i = λ e. absurd (omega (arith, more, e)) in ap (λ (es : List Entry). is_closed es d) entries ∙ others_stay journal.entries i d cause apart ∙ being.rest d (omega (arith, more));
           shut = λ d less other. ap (λ (es : List Entry). is_closed es d) entries ∙ by cause d less other (cases_eq d i);
+          credits = credits_then new;
         }
       where
         by : (cause : Cause) (d : ℕ) → d < i + 1 → d ≢ own → (d ≡ i) ⊎ (d ≢ i) → is_closed (journal.entries ++ Close i cause ∷ []) d ≡ true
@@ -182,11 +200,11 @@ edus_stay before _ _ (one_more dests d cause between after turn closing) = by (e
     by same _ (IsClosing.closed running has) = closings.same_edus between d cause ∙ same
 
 -- what is told where there is no room
-pub no_places_told : (count own : ℕ) (old : SendingState) (n : ℕ) (fault : JournalFault) (told : Result (Unit {0}) JournalFault) → n ≡ length (others_open count own old.entries) → old.is_shut ≡ false
-    → HasNoPlaces old.entries n fault → IsErr told → IsErrAnd told (λ t. t ≡ fault) → ShutsDown count own old told old
+pub no_places_told : (count own : ℕ) (old : SendingState) (n : ℕ) (fault : JournalFault) (told : Result (Unit {0}) CloseFault) → n ≡ length (others_open count own old.entries) → old.is_shut ≡ false
+    → HasNoPlaces old.entries n fault → IsErr told → IsErrAnd told (λ t. t ≡ close_fault_of fault) → ShutsDown count own old told old
 no_places_told count own old n fault (Ok b) same running room errs is = absurd (true≢false (sym errs))
 no_places_told count own old n fault (Err t) same running room errs is = subst (λ f. ShutsDown count own old (Err f) old) (sym is) (by fault room)
   where
-    by : (fault : JournalFault) → HasNoPlaces old.entries n fault → ShutsDown count own old (Err fault) old
+    by : (fault : JournalFault) → HasNoPlaces old.entries n fault → ShutsDown count own old (Err (close_fault_of fault)) old
     by Limit room = ShutsDown.no_place running (ap (has_places old.entries) (sym same) ∙ room)
     by Memory room = ShutsDown.no_memory running (ap (has_places old.entries) (sym same) ∙ room)

@@ -1,13 +1,13 @@
 -- A load that goes to its destinations, one after another.
-use Rattle.std.proofs.Common.{arith, ◌≡◌, ◌≢◌, ◌⊎◌, inl, inr, ℕ, zero, suc, ◌+◌, ◌<◌, ◌==◌, Bool, true, false, ◌||◌, if◌then◌else◌, List, [], ◌∷◌, ◌++◌, length, set, get_or, Option, Some, None, refl, sym, ap, ◌∙◌, subst, append-nil, append_assoc, length-append, length-set, true≢false}
+use Rattle.std.proofs.Common.{arith, ◌≡◌, ◌≢◌, ℕ, suc, ◌+◌, ◌<◌, ◌==◌, Bool, true, false, ◌||◌, if◌then◌else◌, List, [], ◌∷◌, ◌++◌, length, set, get_or, Option, Some, None, refl, sym, ap, ◌∙◌, subst, append-nil, append_assoc, length-append, length-set, true≢false}
 use Rattle.std.specs.List.{slice_get, slice_index_or, All, AllPairs}
 use Rattle.std.specs.List.Sorted.{IsStrictlyIncreasing}
 use Rattle.std.proofs.lemmas.List.Kept.{AllPairs-from_increasing}
 use Rattle.std.specs.Option.{option_map, option_to_list}
 use Rattle.std.proofs.lemmas.List.Folds.{list_any-append}
-use Rattle.std.proofs.lemmas.Option.{same_Some, slice_get_within, slice_get-get_or, slice_get-map}
+use Rattle.std.proofs.lemmas.Option.{slice_get-get_or, slice_get-map}
 use Rattle.std.proofs.lemmas.List.{length-map}
-use Rattle.std.proofs.lemmas.Bool.{cases_eq, eq-eqb, ne_eqb}
+use Rattle.std.proofs.lemmas.Bool.{eq-eqb, ne_eqb}
 use Rattle.fed_dest.specs.ServerSet.{is_among}
 use Rattle.fed_journal.specs.declared.entry.Cause.TheVariants.{Lost}
 use Rattle.fed_journal.specs.declared.entry.Entry.{Entry}
@@ -25,33 +25,9 @@ use Rattle.fed_wires.specs.WireId.{WireId}
 use Rattle.fed_hub_state.specs.declared.unplaced.Unplaced.{Unplaced}
 use Rattle.fed_hub_state.specs.Spreading.{HasSent, AreSent, AreSentTo, PassesOn, shut, sent, back, AreAll, dests_of, wires_of, AreUnused}
 use Rattle.fed_hub_state.specs.SpreadingParts.{AreSome, none, left, kept, IsUnderWay}
-
--- ---- the places of a list
-
-module _ {X : Type 0} where
-  set_here : (xs : List X) (i : ℕ) (y : X) → i < length xs → slice_get (set xs i y) i ≡ Some y
-  set_here [] i y h = absurd (omega arith)
-  set_here (x ∷ xs) zero y h = refl
-  set_here (x ∷ xs) (suc i) y h = set_here xs i y (omega arith)
-
-  set_there : (xs : List X) (i d : ℕ) (y : X) → d ≢ i → slice_get (set xs i y) d ≡ slice_get xs d
-  set_there [] i d y ne = refl
-  set_there (x ∷ xs) zero zero y ne = absurd (ne refl)
-  set_there (x ∷ xs) zero (suc d) y ne = refl
-  set_there (x ∷ xs) (suc i) zero y ne = refl
-  set_there (x ∷ xs) (suc i) (suc d) y ne = set_there xs i d y (λ e. ne (ap suc e))
-
-  -- what holds at each place holds there still where it holds of what is new
-  pub set_all : (P : ℕ → X → Type 0) (xs : List X) (i : ℕ) (y : X) → P i y → ((d : ℕ) (x : X) → d ≢ i → slice_get xs d ≡ Some x → P d x)
-      → (d : ℕ) (x : X) → slice_get (set xs i y) d ≡ Some x → P d x
-  set_all P xs i y this others d x here = by (cases_eq d i)
-    where
-      by : (d ≡ i) ⊎ (d ≢ i) → P d x
-      by (inl same) =
-          let within : i < length xs = omega (arith, slice_get_within (set xs i y) d x here, length-set xs i y, same) in
-          let new : y ≡ x = same_Some y x (sym (set_here xs i y within) ∙ ap (slice_get (set xs i y)) (sym same) ∙ here) in
-          subst (λ k. P k x) (sym same) (subst (P i) new this)
-      by (inr other) = others d x other (sym (set_there xs i d y other) ∙ here)
+use Rattle.fed_hub_state.specs.WireRoom.{HaveRoom}
+use Rattle.fed_hub_state.proofs.Places.{set_all}
+use Rattle.fed_hub_state.proofs.WireRooms.{room_elsewhere}
 
 pub or_true : (b : Bool) → (b || true) ≡ true
 or_true true = refl
@@ -184,6 +160,16 @@ apart (y ∷ given) x rest rising =
     let less : y < x = omega (arith, first, index_middle given x rest 0) in
     ap (λ b. b || is_among given x) (ne_eqb y x (λ same. absurd (omega (arith, same, less)))) ∙ apart given x rest (λ i j d before within. rising (suc i) (suc j) d (omega (arith, before)) (omega (arith, within)))
 
+above : (x : ℕ) (rest : List ℕ) → ((k : ℕ) → k < length rest → x < slice_index_or rest k 0) → is_among rest x ≡ false
+above x [] all = refl
+above x (y ∷ rest) all =
+    let less : x < y = all 0 (omega arith) in
+    ap (λ b. b || is_among rest x) (ne_eqb y x (λ same. absurd (omega (arith, same, less)))) ∙ above x rest (λ k within. all (suc k) (omega (arith, within)))
+
+behind : (given : List ℕ) (x : ℕ) (rest : List ℕ) → AllPairs (λ a b. a < b) (given ++ x ∷ rest) → is_among rest x ≡ false
+behind [] x rest rising = above x rest (λ k within. rising 0 (suc k) 0 (omega arith) (omega (arith, within)))
+behind (y ∷ given) x rest rising = behind given x rest (λ i j d before within. rising (suc i) (suc j) d (omega (arith, before)) (omega (arith, within)))
+
 some_left : (x : ℕ) (xs ys : List ℕ) → AreSome xs ys → AreSome xs (ys ++ x ∷ [])
 some_left x _ _ none = left x [] [] none
 some_left x _ _ (left y xs ys some) = left y xs (ys ++ x ∷ []) (some_left x xs ys some)
@@ -196,8 +182,8 @@ some_kept x _ _ (kept y xs ys some) = kept y (xs ++ x ∷ []) (ys ++ x ∷ []) (
 
 module _ (wires : List (WireId Parcel)) (load : Load) where
   pub under_way_begins : (loads : List Unplaced) (journal : JournalState) (ends : List (Sender Parcel)) → AreSent wires journal.entries ends → AreAll load loads → length loads < journal.reserved
-      → IsUnderWay wires load (dests_of loads) journal.entries loads journal ends
-  under_way_begins loads journal ends are same room = record {
+      → HaveRoom (λ d. is_among (dests_of loads) d ≡ true) ends → IsUnderWay wires load (dests_of loads) journal.entries loads journal ends
+  under_way_begins loads journal ends are same room credits = record {
     given = [];
     lost = [];
     all = refl;
@@ -209,6 +195,7 @@ module _ (wires : List (WireId Parcel)) (load : Load) where
       each = λ d end here. let is = are.each d end here in record { wire = is.wire; sent = is.sent ∙ sym (append-nil (parcels journal.entries d)); returned = is.returned };
     };
     room = room;
+    credits = credits;
   }
 
   module _ (servers : List ℕ) (before : List Entry) (u : Unplaced) (later : List Unplaced) (rising : IsStrictlyIncreasing servers) where
@@ -222,6 +209,13 @@ module _ (wires : List (WireId Parcel)) (load : Load) where
         all_then : servers ≡ (way.given ++ u.dest ∷ []) ++ dests_of later
         all_then = way.all ∙ sym (append_assoc way.given (u.dest ∷ []) (dests_of later))
 
+        no_more : is_among (dests_of later) u.dest ≡ false
+        no_more = behind way.given u.dest (dests_of later) (AllPairs-from_increasing (way.given ++ u.dest ∷ dests_of later) (subst IsStrictlyIncreasing way.all rising))
+
+        credits_then : (new : Sender Parcel) → HaveRoom (λ d. is_among (dests_of later) d ≡ true) (set ends u.dest new)
+        credits_then new = room_elsewhere (λ d. is_among (dests_of (u ∷ later)) d ≡ true) (λ d. is_among (dests_of later) d ≡ true) ends u.dest new way.credits
+            (λ d among. ((λ same. absurd (true≢false (sym among ∙ ap (is_among (dests_of later)) same ∙ no_more))), ap (λ b. (u.dest == d) || b) among ∙ or_true (u.dest == d)))
+
         by : (after : JournalState) (new : Sender Parcel) → PassesOn u.dest load journal end after new → IsUnderWay wires load servers before later after (set ends u.dest new)
         by after new (shut closed) = record {
           given = way.given ++ u.dest ∷ [];
@@ -232,6 +226,7 @@ module _ (wires : List (WireId Parcel)) (load : Load) where
           entries = way.entries;
           sent = passed_on wires load way.given u.dest (is_next journal ends way) journal journal ends end end way.sent here (shut closed);
           room = let r = way.room in omega arith;
+          credits = credits_then new;
         }
         by after new (sent place next) = record {
           given = way.given ++ u.dest ∷ [];
@@ -242,6 +237,7 @@ module _ (wires : List (WireId Parcel)) (load : Load) where
           entries = way.entries;
           sent = passed_on wires load way.given u.dest (is_next journal ends way) journal journal ends end new way.sent here (sent place next);
           room = let r = way.room in omega arith;
+          credits = credits_then new;
         }
         by after new (back place next) = record {
           given = way.given ++ u.dest ∷ [];
@@ -252,7 +248,13 @@ module _ (wires : List (WireId Parcel)) (load : Load) where
           entries = ap (λ es. es ++ Close u.dest Lost ∷ []) way.entries ∙ sym (with_lost-more before way.lost u.dest);
           sent = passed_on wires load way.given u.dest (is_next journal ends way) journal (with_entry journal (Close u.dest Lost)) ends end new way.sent here (back place next);
           room = let r = way.room in omega arith;
+          credits = credits_then new;
         }
+
+-- there is a credit for the next
+pub credit_next : (wires : List (WireId Parcel)) (load : Load) (servers : List ℕ) (before : List Entry) (u : Unplaced) (later : List Unplaced) (journal : JournalState) (ends : List (Sender Parcel)) (end : Sender Parcel)
+    → IsUnderWay wires load servers before (u ∷ later) journal ends → slice_get ends u.dest ≡ Some end → 0 < end.room
+credit_next wires load servers before u later journal ends end way here = way.credits u.dest end (ap (λ b. b || is_among (dests_of later) u.dest) (eq-eqb u.dest u.dest refl)) here
 
 pub none_left : {X : Type 0} (xs : List X) → length xs ≡ 0 → xs ≡ []
 none_left [] is = refl

@@ -1,10 +1,12 @@
 pub mod ClientToken
 pub mod Spreading
+pub mod WireRoom
 pub mod SpreadingParts
 pub mod SendingJournal
 pub mod NoRoom
 pub mod Entering
 pub mod EnterFault
+pub mod CloseFault
 pub mod Closing
 pub mod ShuttingDown
 pub mod ShuttingDownParts

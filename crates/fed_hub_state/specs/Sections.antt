@@ -2,12 +2,11 @@
 use Rattle.std.specs.Prelude.{◌≡◌, ◌≢◌, ℕ, List, ◌∷◌, [], Bool, true, false, Result, Ok, Err}
 use Rattle.serde_json.specs.Data.{Data}
 use Rattle.fed_journal.specs.declared.entry.Cause.{Cause}
-use Rattle.fed_journal.specs.declared.fault.JournalFault.{JournalFault}
-use Rattle.fed_journal.specs.declared.fault.JournalFault.TheVariants as fault
 use Rattle.fed_journal.specs.declared.offered.Offered.TheVariants as offered
-use Rattle.fed_journal.specs.Offering.{IsMade, IsOffered, event_sent, event_has_no_place, IsEduOffered, edu_sent, edu_has_no_place, IsClosing, was_closed, close_has_no_place, is_closed_now}
+use Rattle.fed_journal.specs.Offering.{IsMade, IsOffered, open_among, event_sent, event_has_no_place, IsEduOffered, edu_sent, edu_has_no_place, IsClosing, was_closed, close_has_no_place, is_closed_now}
 use Rattle.fed_journal.specs.declared.parcel.Parcel.{Parcel}
 use Rattle.fed_journal.specs.declared.parcel.Load.TheVariants.{End}
+use Rattle.fed_dest.specs.ServerSet.{is_among}
 use Rattle.fed_room_contract.specs.Draft.{DraftFields}
 use Rattle.fed_room_contract.specs.Prepared.{PreparedEvent, Signer}
 use Rattle.fed_room_contract.specs.Room.{RoomState}
@@ -17,6 +16,8 @@ use Rattle.fed_outbox.specs.declared.fault.OutboxFault.TheVariants.{Memory, Wron
 use Rattle.fed_outbox.specs.Outbox.{OutboxState, expected, fits, is_next}
 use Rattle.fed_outbox.specs.Collecting.{collected}
 use Rattle.fed_journal.specs.Journal.{is_closed}
+use Rattle.fed_hub_state.specs.declared.sending_journal.CloseFault.{CloseFault}
+use Rattle.fed_hub_state.specs.declared.sending_journal.CloseFault.TheVariants as fault
 use Rattle.fed_hub_state.specs.declared.sending_journal.EnterFault.{EnterFault}
 use Rattle.fed_hub_state.specs.declared.sending_journal.EnterFault.TheVariants as enter
 use Rattle.fed_hub_state.specs.declared.sending_journal.EnterFault.TheVariants.{ShutDown, Limit}
@@ -48,6 +49,8 @@ EventIsOffered p dests room old client (Err Limit) stored new after =
     → IsOffered room_rules signer servers own draft [] room old.entries event_has_no_place stored new.entries)
 EventIsOffered p dests room old client (Err ShutDown) stored new after = (old.is_shut ≡ true) × (stored ≡ room) × (new ≡ old) × (after ≡ client)
 EventIsOffered p dests room old client (Err enter.Memory) stored new after = (old.is_shut ≡ false) × (stored ≡ room) × (new ≡ old) × (after ≡ client)
+EventIsOffered p dests room old client (Err (enter.Full d)) stored new after =
+    (old.is_shut ≡ false) × (is_among (open_among old.entries dests) d ≡ true) × (stored ≡ room) × (new ≡ old) × (after ≡ client)
 
 -- ---- an ephemeral data unit is offered
 
@@ -59,12 +62,14 @@ EduIsOffered value dests old client (Ok number) new after =
 EduIsOffered value dests old client (Err Limit) new after = (old.is_shut ≡ false) × IsEduOffered value dests [] old.entries edu_has_no_place new.entries × (new ≡ old) × (after ≡ client)
 EduIsOffered value dests old client (Err ShutDown) new after = (old.is_shut ≡ true) × (new ≡ old) × (after ≡ client)
 EduIsOffered value dests old client (Err enter.Memory) new after = (old.is_shut ≡ false) × (new ≡ old) × (after ≡ client)
+EduIsOffered value dests old client (Err (enter.Full d)) new after = (old.is_shut ≡ false) × (is_among (open_among old.entries dests) d ≡ true) × (new ≡ old) × (after ≡ client)
 
 -- ---- an outbox is closed
 
 -- for a cause, which is not asked for only where the end came back
-abbrev pub OutboxIsClosed : ℕ → SendingState → Result Bool JournalFault → SendingState → Type 0
+abbrev pub OutboxIsClosed : ℕ → SendingState → Result Bool CloseFault → SendingState → Type 0
 OutboxIsClosed d old (Ok true) new = (cause : Cause) × ((new.is_shut ≡ old.is_shut) × IsClosing d cause old.entries is_closed_now new.entries)
 OutboxIsClosed d old (Ok false) new = ((cause : Cause) → IsClosing d cause old.entries was_closed new.entries) × (new ≡ old)
 OutboxIsClosed d old (Err fault.Limit) new = ((cause : Cause) → IsClosing d cause old.entries close_has_no_place new.entries) × (new ≡ old)
 OutboxIsClosed d old (Err fault.Memory) new = (is_closed old.entries d ≡ false) × (new ≡ old)
+OutboxIsClosed d old (Err (fault.Full full)) new = (is_closed old.entries d ≡ false) × (full ≡ d) × (new ≡ old)

@@ -8,6 +8,8 @@ use Rattle.fed_journal.specs.declared.fault.JournalFault.{JournalFault}
 use Rattle.fed_journal.specs.declared.fault.JournalFault.TheVariants.{Memory, Limit}
 use Rattle.fed_journal.specs.Journal.{is_closed}
 use Rattle.fed_journal.specs.Offering.{IsClosing, is_closed_now}
+use Rattle.fed_hub_state.specs.declared.sending_journal.CloseFault.{CloseFault}
+use Rattle.fed_hub_state.specs.declared.sending_journal.CloseFault.TheVariants as close
 use Rattle.fed_hub_state.specs.SendingJournal.{SendingState}
 
 -- the outbox for another server than the own one is open
@@ -33,11 +35,12 @@ pub data AreClosedInTurn (before : List Entry) : List ℕ → List Entry → Typ
   one_more : (dests : List ℕ) (d : ℕ) (cause : Cause) (between after : List Entry) → AreClosedInTurn before dests between → IsClosing d cause between is_closed_now after
       → AreClosedInTurn before (dests ++ d ∷ []) after
 
--- It was shut down before; or it has no place for the closings, or memory ran out, and it is as it was; or the outboxes are closed and it is shut
--- down now.
-pub data ShutsDown (count own : ℕ) (old : SendingState) : Result (Unit {0}) JournalFault → SendingState → Type 0 where
+-- It was shut down before; or it has no place for the closings, or memory ran out, or the wire to one of those open was found to have no room,
+-- and it is as it was; or the outboxes are closed and it is shut down now.
+pub data ShutsDown (count own : ℕ) (old : SendingState) : Result (Unit {0}) CloseFault → SendingState → Type 0 where
   before : old.is_shut ≡ true → ShutsDown count own old (Ok tt) old
-  no_place : old.is_shut ≡ false → has_places old.entries (length (others_open count own old.entries)) ≡ false → ShutsDown count own old (Err Limit) old
-  no_memory : old.is_shut ≡ false → has_places old.entries (length (others_open count own old.entries)) ≡ true → ShutsDown count own old (Err Memory) old
+  no_place : old.is_shut ≡ false → has_places old.entries (length (others_open count own old.entries)) ≡ false → ShutsDown count own old (Err close.Limit) old
+  no_memory : old.is_shut ≡ false → has_places old.entries (length (others_open count own old.entries)) ≡ true → ShutsDown count own old (Err close.Memory) old
+  full : (d : ℕ) → old.is_shut ≡ false → has_places old.entries (length (others_open count own old.entries)) ≡ true → is_other_open own old.entries d ≡ true → ShutsDown count own old (Err (close.Full d)) old
   now : (entries : List Entry) → old.is_shut ≡ false → AreClosedInTurn old.entries (others_open count own old.entries) entries
       → ShutsDown count own old (Ok tt) (record { entries = entries; is_shut = true })

@@ -8,6 +8,7 @@ use Rattle.fed_wires.specs.WireId.{WireId}
 use Rattle.fed_hub_state.specs.Closing.{ClosesOpen}
 use Rattle.fed_hub_state.specs.ShuttingDown.{is_other_open, others_open, AreClosedInTurn}
 use Rattle.fed_hub_state.specs.Spreading.{AreSent}
+use Rattle.fed_hub_state.specs.WireRoom.{HaveRoom}
 
 -- the outbox for a server is closed, where it is another one and open
 pub data ClosesOther (own d : ℕ) (journal : JournalState) (end : Sender Parcel) : JournalState → Sender Parcel → Type 0 where
@@ -15,7 +16,7 @@ pub data ClosesOther (own d : ℕ) (journal : JournalState) (end : Sender Parcel
   closed : (place : PlaceValue) (after : JournalState) (new : Sender Parcel) → is_other_open own journal.entries d ≡ true → next_place journal.entries d ≡ Some place
       → ClosesOpen place journal end after new → ClosesOther own d journal end after new
 
--- those of the first i servers are closed; there is room for those of all, which are `count`
+-- those of the first i servers are closed; there is room in the journal for those of all, which are `count`, and in the wires of the others
 pub record IsBeingShut (wires : List (WireId Parcel)) (own count i : ℕ) (before : JournalState) (journal : JournalState) (ends : List (Sender Parcel)) : Type 0 where
   pub turn : AreClosedInTurn before.entries (others_open i own before.entries) journal.entries
   pub sent : AreSent wires journal.entries ends
@@ -23,3 +24,4 @@ pub record IsBeingShut (wires : List (WireId Parcel)) (own count i : ℕ) (befor
   pub grown : length journal.entries ≡ length before.entries + length (others_open i own before.entries)
   pub rest : (d : ℕ) → i ≤ d → is_closed journal.entries d ≡ is_closed before.entries d
   pub shut : (d : ℕ) → d < i → d ≢ own → is_closed journal.entries d ≡ true
+  pub credits : HaveRoom (λ d. (i ≤ d) × (is_other_open own before.entries d ≡ true)) ends

@@ -1,5 +1,6 @@
 -- A load that is on the way to its destinations.
-use Rattle.std.specs.Prelude.{◌≡◌, ◌<◌, ◌++◌, ℕ, List, [], ◌∷◌, length}
+use Rattle.std.specs.Prelude.{◌≡◌, ◌<◌, ◌++◌, ℕ, true, List, [], ◌∷◌, length}
+use Rattle.fed_dest.specs.ServerSet.{is_among}
 use Rattle.fed_journal.specs.declared.entry.Entry.{Entry}
 use Rattle.fed_journal.specs.declared.parcel.Load.{Load}
 use Rattle.fed_journal.specs.declared.parcel.Parcel.{Parcel}
@@ -9,6 +10,7 @@ use Rattle.fed_wires.specs.SendEnd.{Sender}
 use Rattle.fed_wires.specs.WireId.{WireId}
 use Rattle.fed_hub_state.specs.declared.unplaced.Unplaced.{Unplaced}
 use Rattle.fed_hub_state.specs.Spreading.{AreAll, AreSentTo, dests_of}
+use Rattle.fed_hub_state.specs.WireRoom.{HaveRoom}
 
 -- some of the others, in their order
 pub data AreSome : List ℕ → List ℕ → Type 0 where
@@ -26,3 +28,4 @@ pub record IsUnderWay (wires : List (WireId Parcel)) (load : Load) (servers : Li
   pub entries : journal.entries ≡ with_lost before lost
   pub sent : AreSentTo wires journal.entries load given ends
   pub room : length rest < journal.reserved
+  pub credits : HaveRoom (λ d. is_among (dests_of rest) d ≡ true) ends

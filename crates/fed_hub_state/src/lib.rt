@@ -33,5 +33,5 @@ pub use in_place::InPlace;
 pub use kept_room::KeptRoom;
 pub use naming::{EduLedger, EventLedger, Naming};
 pub use seated_outbox::SeatedOutbox;
-pub use sending_journal::{EnterFault, SendingJournal};
+pub use sending_journal::{CloseFault, EnterFault, SendingJournal};
 pub use unplaced::Unplaced;

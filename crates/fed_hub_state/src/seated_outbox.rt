@@ -65,4 +65,18 @@ impl<N: Naming> SeatedOutbox<N> {
     {
         board.load(&mut self.seat, self.outbox.dest().place())
     }
+
+    /// The outbox, and the seat, which owns the word of its destination and has raised it to the count of the events that are settled.
+    pub fn part(self) -> (Outbox, Seat)
+        ensures outbox { result.0 ≡ self }
+        ensures board { result.1.board ≡ N.board }
+        ensures word { result.1.owned ≡ one_word self.dest (length self.settled) }
+    {
+        let SeatedOutbox {
+            outbox,
+            seat,
+            of: _,
+        } = self;
+        (outbox, seat)
+    }
 }

@@ -1,5 +1,9 @@
 //! The sections: what a thread does while it holds locks. Each is one function that is lent what lies under them, and what it does is the
 //! definition of the same step at a server of one thread.
+//!
+//! No section waits for room in a wire. One that sends takes in a credit for each parcel first, and where a wire has none it answers `Full`,
+//! and all is as it was. The thread then lets its locks go, waits for a credit of that wire (`fed_wires::Credits`), takes the locks, lays it in
+//! ([`SendingJournal::give`]) and tries again.
 ghost use Rattle.std.specs.Prelude.{◌≡◌, ◌<◌, ◌≤◌, length, None, All, IfErr, OnOk, OnErr};
 ghost use Rattle.fed_journal.specs.Edu.{edu_fault_of};
 ghost use Rattle.fed_outbox.specs.Outbox.{cut, can_cut};
@@ -10,6 +14,8 @@ ghost use Rattle.fed_journal.specs.Offered.{load_of};
 ghost use Rattle.fed_room_contract.specs.declared.verdict.Verdict.TheVariants.{Accepted};
 ghost use Rattle.fed_room.specs.Room.{room_of, room_rules, IsPrepared};
 ghost use Rattle.fed_hub_state.specs.Applying.{EventIsApplied};
+ghost use Rattle.fed_hub_state.specs.CloseFault.{CloseFullIsWithin};
+ghost use Rattle.fed_hub_state.specs.EnterFault.{FullIsWithin};
 ghost use Rattle.fed_hub_state.specs.Sections.{IsRefused, IsCollected, EventIsOffered, EduIsOffered, OutboxIsClosed};
 ghost use Rattle.fed_hub_state.specs.ShuttingDown.{ShutsDown};
 ghost use Rattle.fed_hub_state.specs.Spreading.{AreAll, dests_of};
@@ -18,11 +24,11 @@ use crate::client_token::ClientToken;
 use crate::kept_room::KeptRoom;
 use crate::naming::Naming;
 use crate::seated_outbox::SeatedOutbox;
-use crate::sending_journal::{EnterFault, SendingJournal};
+use crate::sending_journal::{CloseFault, EnterFault, SendingJournal};
 use crate::unplaced::Unplaced;
 use fed_dest::{ServerIndex, ServerSet};
 use fed_event::Checked;
-use fed_journal::{JournalFault, Offered, Parcel};
+use fed_journal::{Offered, Parcel};
 use fed_json::Json;
 use fed_outbox::{OutboxFault, Settlement};
 use fed_room_contract::{Applied, Prepared, Stopped};
@@ -46,7 +52,7 @@ pub struct Outgoing {
 ///
 /// # Errors
 ///
-/// In this order; all is then as it was: `ShutDown`, `Limit`, `Memory`.
+/// In this order; all is then as it was: `ShutDown`, `Limit`, `Memory`, `Full`.
 pub fn offer<N: Naming, R: Wait>(
     rt: &R,
     room: &mut KeptRoom,
@@ -62,7 +68,8 @@ pub fn offer<N: Naming, R: Wait>(
     requires within { All (λ d. d < length N.wires) outgoing.dests }
     requires dests { dests_of outgoing.loads.items ≡ outgoing.dests }
     requires same { AreAll (load_of outgoing.offered) outgoing.loads.items }
-    ensures { EventIsOffered outgoing.prepared outgoing.dests (room_of room.old.room) journal.old client.old result (room_of room.new.room) journal.new client.new }
+    ensures within { IfErr result (FullIsWithin (length N.wires)) }
+    ensures offered { EventIsOffered outgoing.prepared outgoing.dests (room_of room.old.room) journal.old client.old result (room_of room.new.room) journal.new client.new }
 {
     let Outgoing {
         prepared,
@@ -81,7 +88,7 @@ pub fn offer<N: Naming, R: Wait>(
 ///
 /// # Errors
 ///
-/// In this order; all is then as it was: `ShutDown`, `Limit`, `Memory`.
+/// In this order; all is then as it was: `ShutDown`, `Limit`, `Memory`, `Full`.
 pub fn offer_edu<N: Naming, R: Wait>(
     rt: &R,
     journal: &mut SendingJournal<N>,
@@ -95,7 +102,8 @@ pub fn offer_edu<N: Naming, R: Wait>(
     requires within { All (λ d. d < length N.wires) dests }
     requires dests { dests_of loads.items ≡ dests }
     requires same { AreAll (Edu edu) loads.items }
-    ensures { EduIsOffered edu dests journal.old client.old result journal.new client.new }
+    ensures within { IfErr result (FullIsWithin (length N.wires)) }
+    ensures offered { EduIsOffered edu dests journal.old client.old result journal.new client.new }
 {
     journal.enter(rt, client, Offered::Edu(edu), dests, loads)
 }
@@ -104,14 +112,15 @@ pub fn offer_edu<N: Naming, R: Wait>(
 ///
 /// # Errors
 ///
-/// In this order; all is then as it was: `Limit`, `Memory`, both only where it is open.
+/// In this order; all is then as it was: `Limit`, `Memory`, `Full`, each only where it is open.
 pub fn close<N: Naming, R: Wait>(
     rt: &R,
     journal: &mut SendingJournal<N>,
     dest: ServerIndex,
-) -> Result<bool, JournalFault>
+) -> Result<bool, CloseFault>
     requires { dest < length N.wires }
-    ensures { OutboxIsClosed dest journal.old result journal.new }
+    ensures within { IfErr result (CloseFullIsWithin (length N.wires)) }
+    ensures closed { OutboxIsClosed dest journal.old result journal.new }
 {
     journal.close(rt, dest)
 }
@@ -120,14 +129,15 @@ pub fn close<N: Naming, R: Wait>(
 ///
 /// # Errors
 ///
-/// In this order; all is then as it was: `Limit`, `Memory`.
+/// In this order; all is then as it was: `Limit`, `Memory`, `Full`.
 pub fn shut_down<N: Naming, R: Wait>(
     rt: &R,
     journal: &mut SendingJournal<N>,
     own: ServerIndex,
-) -> Result<(), JournalFault>
+) -> Result<(), CloseFault>
     requires { own ≡ N.own }
-    ensures { ShutsDown (length N.wires) N.own journal.old result journal.new }
+    ensures within { IfErr result (CloseFullIsWithin (length N.wires)) }
+    ensures shut { ShutsDown (length N.wires) N.own journal.old result journal.new }
 {
     journal.shut_down(rt, own)
 }

@@ -5,20 +5,22 @@ ghost use Rattle.fed_journal.specs.Journal.{is_closed, next_place, placed, event
 ghost use Rattle.fed_journal.specs.Offered.{load_of};
 ghost use Rattle.fed_journal.specs.Offering.{has_place};
 ghost use mathlib.Core.List.{IsPrefix};
+ghost use Rattle.fed_hub_state.specs.CloseFault.{CloseFullIsWithin};
 ghost use Rattle.fed_hub_state.specs.Closing.{ClosesOpen};
+ghost use Rattle.fed_hub_state.specs.EnterFault.{FullIsWithin};
 ghost use Rattle.fed_hub_state.specs.NoRoom.{HasNoRoom};
 ghost use Rattle.fed_hub_state.specs.Spreading.{AreAll, dests_of};
 
 use crate::client_token::ClientToken;
 use crate::in_place::InPlace;
 use crate::naming::{EduLedger, EventLedger, Naming};
-use crate::shutting_down::{close_others, make_places, others_open};
-use crate::spreading::{goes, pass_all_on};
+use crate::shutting_down::{close_others, full_other, make_places, others_open};
+use crate::spreading::{full_among, goes, has_room, pass_all_on};
 use crate::unplaced::Unplaced;
 use fed_dest::{MAX_SERVERS, ServerIndex, ServerSet};
 use fed_journal::{Cause, Entry, Journal, JournalFault, Load, Offered, Parcel, Place};
 use fed_json::NoMemory;
-use fed_wires::{ReceiveEnd, SendEnd};
+use fed_wires::{Credit, ReceiveEnd, SendEnd};
 use std::alloc::Global;
 use std::marker::Model;
 use std::sync::Wait;
@@ -37,6 +39,9 @@ pub enum EnterFault {
     /// There would be more than `MAX_ENTRIES` entries.
     #[error("too many entries")]
     Limit,
+    /// The wire to this destination has no room.
+    #[error("a full wire")]
+    Full(ServerIndex),
 }
 
 impl From<JournalFault> for EnterFault {
@@ -49,6 +54,34 @@ impl From<JournalFault> for EnterFault {
         match fault {
             JournalFault::Memory => EnterFault::Memory,
             JournalFault::Limit => EnterFault::Limit,
+        }
+    }
+}
+
+/// Why outboxes are not closed.
+#[derive(Clone, Copy, Debug, PartialEq, Eq, Error)]
+pub enum CloseFault {
+    /// Memory ran out.
+    #[error("out of memory")]
+    Memory,
+    /// There would be more than `MAX_ENTRIES` entries.
+    #[error("too many entries")]
+    Limit,
+    /// The wire to this destination has no room.
+    #[error("a full wire")]
+    Full(ServerIndex),
+}
+
+impl From<JournalFault> for CloseFault {
+    ghost use Rattle.std.specs.Prelude.{◌≡◌};
+    ghost use Rattle.fed_hub_state.specs.CloseFault.{close_fault_of};
+
+    ghost from_gives = { λ fault told. told ≡ close_fault_of fault };
+
+    fn from(fault: JournalFault) -> CloseFault {
+        match fault {
+            JournalFault::Memory => CloseFault::Memory,
+            JournalFault::Limit => CloseFault::Limit,
         }
     }
 }
@@ -91,7 +124,9 @@ impl<N: Naming> SendingJournal<N> {
     ghost use Rattle.fed_hub_state.specs.Spreading.{wires_of, AreUnused};
 
     /// A journal with no entry, with these ends of its wires, one for each listed server, and the token of a client that was told of nothing
-    /// and has all parts of the ledgers.
+    /// and has all parts of the ledgers. Who waits for room in the wires has [`Credits`] of the ends, made before.
+    ///
+    /// [`Credits`]: fed_wires::Credits
     ///
     /// # Errors
     ///
@@ -140,6 +175,14 @@ impl<N: Naming> SendingJournal<N> {
         self.is_shut
     }
 
+    /// Takes in a credit that was waited for, of the wire to the destination at its place.
+    pub fn give(&mut self, credit: Credit)
+        requires { credit < length N.wires }
+        ensures { self.new ≡ self.old }
+    {
+        self.ends[credit.place()].give(credit);
+    }
+
     /// Compares the books with what all clients together were told: the journal has as many events, and as many EDUs.
     pub fn all_told(&mut self, all: &mut ClientToken<N>)
         requires { all.old.parts ≡ N.parts }
@@ -160,6 +203,7 @@ impl<N: Naming> SendingJournal<N> {
     /// - `ShutDown`, exactly where the journal is shut down
     /// - `Limit`, exactly where it has no place for the entry and for closing each outbox that the entry reaches
     /// - `Memory`, where memory runs out
+    /// - `Full`, where the wire to a destination whose outbox is open was found to have no room for a parcel
     pub fn enter<R: Wait>(
         &mut self,
         rt: &R,
@@ -172,13 +216,17 @@ impl<N: Naming> SendingJournal<N> {
         requires within { All (λ d. d < length N.wires) dests }
         requires dests { dests_of loads.items ≡ dests }
         requires same { AreAll (load_of offered) loads.items }
-        ensures { Enters offered dests self.old client.old result self.new client.new }
+        ensures entered { Enters offered dests self.old client.old result self.new client.new }
+        ensures within { IfErr result (FullIsWithin (length N.wires)) }
     {
         if self.is_shut {
             return Err(EnterFault::ShutDown);
         }
         let loads = those_open(&self.journal, loads);
         make_room(&mut self.journal, loads.len())?;
+        if let Some(dest) = full_among(rt, &mut self.ends, &loads) {
+            return Err(EnterFault::Full(dest));
+        }
         pass_all_on::<N, R>(rt, &mut self.journal, &mut self.ends, &offered, loads);
         client.note(&mut self.events, &mut self.edus, &offered);
         Ok(offered.append_to(&mut self.journal, dests))
@@ -200,14 +248,19 @@ impl<N: Naming> SendingJournal<N> {
     ///
     /// - `Limit`, exactly where the outbox is open and the journal has no place for the closing
     /// - `Memory`, where memory runs out
-    pub fn close<R: Wait>(&mut self, rt: &R, dest: ServerIndex) -> Result<bool, JournalFault>
+    /// - `Full`, where the wire to the destination was found to have no room for the end
+    pub fn close<R: Wait>(&mut self, rt: &R, dest: ServerIndex) -> Result<bool, CloseFault>
         requires { dest < length N.wires }
-        ensures { Closes dest self.old result self.new }
+        ensures closed { Closes dest self.old result self.new }
+        ensures within { IfErr result (CloseFullIsWithin (length N.wires)) }
     {
         let Some(place) = self.journal.place(dest) else {
             return Ok(false);
         };
         make_room(&mut self.journal, 0)?;
+        if !has_room(rt, &mut self.ends, dest) {
+            return Err(CloseFault::Full(dest));
+        }
         let end = &mut self.ends[dest.place()];
         close_open(rt, &mut self.journal, end, place);
         Ok(true)
@@ -222,15 +275,20 @@ impl<N: Naming> SendingJournal<N> {
     ///
     /// - `Limit`, exactly where it is not shut down and has no place for the closings
     /// - `Memory`, where memory runs out
-    pub fn shut_down<R: Wait>(&mut self, rt: &R, own: ServerIndex) -> Result<(), JournalFault>
+    /// - `Full`, where the wire to one of these servers was found to have no room for the end
+    pub fn shut_down<R: Wait>(&mut self, rt: &R, own: ServerIndex) -> Result<(), CloseFault>
         requires { own ≡ N.own }
-        ensures { ShutsDown (length N.wires) N.own self.old result self.new }
+        ensures shut { ShutsDown (length N.wires) N.own self.old result self.new }
+        ensures within { IfErr result (CloseFullIsWithin (length N.wires)) }
     {
         if self.is_shut {
             return Ok(());
         }
         let open = others_open(&self.journal, own, self.ends.len());
         make_places(&mut self.journal, open)?;
+        if let Some(dest) = full_other(rt, &self.journal, &mut self.ends, own) {
+            return Err(CloseFault::Full(dest));
+        }
         close_others::<N, R>(rt, &mut self.journal, &mut self.ends, own);
         self.is_shut = true;
         Ok(())
@@ -256,6 +314,7 @@ pub(crate) fn close_open<R: Wait>(
     requires reserved { 0 < journal.old.reserved }
     requires place { next_place journal.old.entries place.dest ≡ Some place }
     requires sent { length end.old.sent ≡ placed journal.old.entries place.dest }
+    requires credit { 0 < end.old.room }
     ensures { ClosesOpen place journal.old end.old journal.new end.new }
 {
     let dest = place.dest();

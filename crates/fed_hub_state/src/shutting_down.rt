@@ -1,13 +1,15 @@
 // How the outboxes for all other servers are closed.
-ghost use Rattle.std.specs.Prelude.{◌≡◌, ◌≤◌, ◌<◌, true, length, OnOk, IfErr};
+ghost use Rattle.std.specs.Prelude.{◌≡◌, ◌≤◌, ◌<◌, true, length, OnOk, IfErr, MatchOption};
 ghost use Rattle.fed_journal.specs.Journal.{placed};
 ghost use Rattle.fed_hub_state.specs.ShuttingDown.{is_other_open, others_open, has_places, HasNoPlaces};
 ghost use Rattle.fed_hub_state.specs.ShuttingDownParts.{ClosesOther, IsBeingShut};
 ghost use Rattle.fed_hub_state.specs.Spreading.{AreSent};
+ghost use Rattle.fed_hub_state.specs.WireRoom.{HaveRoom, HaveTakenIn};
 
 use crate::in_place::InPlace;
 use crate::naming::Naming;
 use crate::sending_journal::close_open;
+use crate::spreading::has_room;
 use fed_dest::{MAX_SERVERS, ServerIndex};
 use fed_journal::{Journal, JournalFault, Parcel};
 use fed_wires::SendEnd;
@@ -40,7 +42,27 @@ pub(crate) fn make_places(journal: &mut Journal, count: usize) -> Result<(), Jou
     journal.reserve(count as u64)
 }
 
-/// Closes the outboxes for all servers but the own one that are open, for which there is room.
+/// The first server but the own one whose outbox is open and whose wire has no room for a parcel.
+pub(crate) fn full_other<R: Wait>(
+    rt: &R,
+    journal: &Journal,
+    ends: &mut [SendEnd<Parcel, InPlace>],
+    own: ServerIndex,
+) -> Option<ServerIndex>
+    requires { length ends.old ≤ MAX_SERVERS }
+    ensures same { HaveTakenIn ends.old ends.new }
+    ensures full { MatchOption result (HaveRoom (λ d. is_other_open own journal.now.entries d ≡ true) ends.new) (λ d. (d < length ends.old) × (is_other_open own journal.now.entries d ≡ true)) }
+{
+    for place in 0..ends.len() {
+        let dest = ServerIndex::new(place);
+        if is_other_open(journal, own, dest) && !has_room(rt, ends, dest) {
+            return Some(dest);
+        }
+    }
+    None
+}
+
+/// Closes the outboxes for all servers but the own one that are open, for which there is room in the journal and in their wires.
 pub(crate) fn close_others<N: Naming, R: Wait>(
     rt: &R,
     journal: &mut Journal,
@@ -51,6 +73,7 @@ pub(crate) fn close_others<N: Naming, R: Wait>(
     requires room { length (others_open (length N.wires) own journal.old.entries) ≤ journal.old.reserved }
     requires places { has_places journal.old.entries (length (others_open (length N.wires) own journal.old.entries)) ≡ true }
     requires sent { AreSent N.wires journal.old.entries ends.old }
+    requires credits { HaveRoom (λ d. is_other_open own journal.old.entries d ≡ true) ends.old }
     ensures { IsBeingShut N.wires own (length N.wires) (length N.wires) journal.old journal.new ends.new }
 {
     for place in 0..ends.len() {
@@ -68,6 +91,7 @@ fn close_other<R: Wait>(
 )
     requires reserved { is_other_open own journal.old.entries dest ≡ true → 0 < journal.old.reserved }
     requires sent { length end.old.sent ≡ placed journal.old.entries dest }
+    requires credit { is_other_open own journal.old.entries dest ≡ true → 0 < end.old.room }
     ensures { ClosesOther own dest journal.old end.old journal.new end.new }
 {
     if dest == own {

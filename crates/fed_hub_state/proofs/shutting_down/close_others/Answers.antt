@@ -3,11 +3,11 @@ use Rattle.fed_journal.specs.Journal.{placed}
 use Rattle.fed_hub_state.specs.ShuttingDown.{is_other_open}
 use Rattle.fed_hub_state.specs.ShuttingDownParts.{ClosesOther, IsBeingShut}
 use Rattle.fed_hub_state.proofs.Spreads.{count_placed, standing}
-use Rattle.fed_hub_state.proofs.Shuts.{begins, has_room_for, goes_on}
+use Rattle.fed_hub_state.proofs.Shuts.{begins, credit_next, has_room_for, goes_on}
 use Rattle.fed_hub_state.proofs.shutting_down.close_others.Goals as goal
 
 pub loop-place-init : goal.loop-place-init
-loop-place-init g c = begins g.N.Naming.wires c.args.own (length g.N.Naming.wires) c.args.journal.now c.args.ends.now c.requires.sent c.requires.room
+loop-place-init g c = begins g.N.Naming.wires c.args.own (length g.N.Naming.wires) c.args.journal.now c.args.ends.now c.requires.sent c.requires.room c.requires.credits
 
 pub new-requires : goal.new-requires
 new-requires g c = let few = c.requires.few in let count = c.loop-place.invariant.sent.count in omega (arith, few, count, c.loop-place.auto.ends)
@@ -24,6 +24,14 @@ close_other-requires-clause-sent g c =
     let i = c.loop-place.place in
     let here = standing ends i i c.index-ends-place.result refl (omega arith) in
     ap length (c.loop-place.invariant.sent.each i (get_or ends i c.index-ends-place.result) here).sent ∙ count_placed c.loop-place.journal.entries i ∙ ap (placed c.loop-place.journal.entries) (sym c.new.ensures)
+
+pub close_other-requires-clause-credit : goal.close_other-requires-clause-credit
+close_other-requires-clause-credit g c = λ is.
+    let ends = c.loop-place.ends in
+    let i = c.loop-place.place in
+    let here = standing ends i i c.index-ends-place.result refl (omega arith) in
+    credit_next g.N.Naming.wires c.args.own (length g.N.Naming.wires) c.args.journal.now i c.loop-place.journal ends (get_or ends i c.index-ends-place.result) c.loop-place.invariant here
+    (ap (is_other_open c.args.own c.loop-place.journal.entries) (sym c.new.ensures) ∙ is)
 
 pub loop-place-preserved : goal.loop-place-preserved
 loop-place-preserved g c =
