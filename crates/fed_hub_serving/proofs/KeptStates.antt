@@ -1,12 +1,12 @@
 -- What an inbox under its lock is, as requests are answered and its wires end.
-use Rattle.std.proofs.Common.{◌≡◌, ◌≢◌, ◌⊎◌, inl, inr, ℕ, Bool, true, unwrap_or, List, [], ◌∷◌, ◌++◌, map, length, replicate, Option, Some, None, option_map, refl, sym, ap, ◌∙◌, subst}
+use Rattle.std.proofs.Common.{◌≡◌, ◌≢◌, ◌⊎◌, inl, inr, ℕ, Bool, unwrap_or, List, [], ◌∷◌, ◌++◌, map, length, replicate, Option, Some, None, Result, Ok, Err, option_map, refl, sym, ap, ◌∙◌, subst}
+use Rattle.std.specs.Prelude.{OnErr}
 use Rattle.std.specs.List.{slice_get}
-use Rattle.std.proofs.lemmas.List.{length-map, map-append}
+use Rattle.std.proofs.lemmas.List.{length-map}
 use Rattle.std.proofs.lemmas.Option.{slice_get-map}
 use Rattle.fed_event.specs.Checked.{CheckedEvent}
 use Rattle.fed_keys.specs.Keys.{Checks}
-use Rattle.fed_http.specs.Message.{RequestValue, Answer}
-use Rattle.fed_inbox.specs.History.{Point, IsHistory, one_more}
+use Rattle.fed_inbox.specs.History.{Point, one_more}
 use Rattle.fed_inbox.specs.Inbox.{InboxState}
 use Rattle.fed_inbox.specs.Receiver.{ReceiverState, IsInboxOf}
 use Rattle.fed_inbox.specs.WholeRequest.{IsAnsweredWhole}
@@ -16,12 +16,14 @@ use Rattle.fed_hub_serving.specs.declared.bound.Bound.{Bound}
 use Rattle.fed_hub_serving.specs.declared.end_place.EndPlace.{EndPlace}
 use Rattle.fed_hub_serving.specs.declared.room_wire.RoomWire.{RoomWire}
 use Rattle.fed_hub_serving.specs.declared.room_wire.EndedWire.{EndedWire}
-use Rattle.fed_hub_serving.specs.Bound.{AreBound, bound_of, event_in, events_in}
-use Rattle.fed_hub_serving.specs.Sections.{Takes, EndsAt, EndAmong, IsServed}
+use Rattle.fed_hub_serving.specs.Bound.{AreBound, bound_of, events_in}
+use Rattle.fed_hub_serving.specs.Sections.{EndsAt, EndAmong, IsServed}
 use Rattle.fed_hub_serving.specs.Serving.{ServingState, ended_in, IsServing, AreLeft}
 use Rattle.fed_hub_serving.specs.Spreading as spreads
 use Rattle.fed_hub_serving.specs.Spreading.{Spread, SpreadAll}
 use Rattle.fed_hub_serving.specs.Wires.{WiresState, AreSent, running, ended_of, ended_at}
+use Rattle.fed_hub_serving.specs.WireRoom.{HaveTakenIn}
+use Rattle.fed_hub_serving.proofs.WireRooms.{taken_sent, taken_ended}
 use Rattle.fed_hub_serving.proofs.Sent.{mapped, all_served}
 use Rattle.fed_hub_serving.proofs.Takes.{takes}
 
@@ -92,6 +94,22 @@ module _ (names : List (WireId CheckedEvent)) (known : List (List ℕ)) (checks 
     shut = spread.shut;
     found = found;
   }
+
+-- ---- wires take in credits
+
+module _ (old new : WiresState) (taken : HaveTakenIn old.wires new.wires) (shut : new.is_shut ≡ old.is_shut) where
+  pub still_serving : (names : List (WireId CheckedEvent)) (known : List (List ℕ)) (checks : Checks) (receiver : ReceiverState) (beginning : InboxState) (points : List Point) (inbox : InboxState)
+      → IsServing names known checks receiver beginning points inbox old → IsServing names known checks receiver beginning points inbox new
+  still_serving names known checks receiver beginning points inbox is = record { history = is.history; server = is.server; sent = taken_sent names known points old new is.sent taken shut }
+
+  -- it is seen as it was
+  pub same_state : (points : List Point) (inbox : InboxState)
+      → ◌≡◌ {A = ServingState} (record { inbox = inbox; points = points; ended = ended_in new; is_shut = new.is_shut }) (record { inbox = inbox; points = points; ended = ended_in old; is_shut = old.is_shut })
+  same_state points inbox i = record { inbox = inbox; points = points; ended = taken_ended old.wires new.wires taken i; is_shut = shut i }
+
+pub on_err : {X Y : Type 0} (told : Result X Y) (P : Type 0) → P → OnErr told P
+on_err (Ok x) P is = tt
+on_err (Err y) P is = is
 
 -- ---- wires that have not ended, or all have
 

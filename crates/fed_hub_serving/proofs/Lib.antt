@@ -1,4 +1,5 @@
 pub mod Places
+pub mod WireRooms
 pub mod Spreads
 pub mod Sent
 pub mod Wiring

@@ -1,5 +1,5 @@
 -- What a server replies to a request, and what becomes of one that comes to it.
-use Rattle.std.proofs.Common.{◌≡◌, ℕ, List, [], length, Option, Some, None, refl, sym, subst, ◌∙◌}
+use Rattle.std.proofs.Common.{◌≡◌, ℕ, List, [], length, Option, Some, None, Result, Ok, Err, refl, sym, subst, ◌∙◌}
 use Rattle.std.proofs.lemmas.Option.{none-some}
 use Rattle.fed_event.specs.Checked.{CheckedEvent}
 use Rattle.fed_keys.specs.Keys.{Checks}
@@ -14,7 +14,11 @@ use Rattle.fed_inbox.specs.Inbox.{InboxState}
 use Rattle.fed_inbox.specs.Reply.{refused}
 use Rattle.fed_stream.specs.Reading.{Reads, IsUnread}
 use Rattle.fed_stream.specs.declared.unread.Unread.TheVariants.{Http}
+use Rattle.std.specs.Prelude.{IfOk}
+use Rattle.fed_hub_serving.specs.declared.full_wire.FullWire.{FullWire}
+use Rattle.fed_hub_serving.specs.declared.inbox_reply.InboxReply.{InboxReply}
 use Rattle.fed_hub_serving.specs.declared.served.Served.{Served}
+use Rattle.fed_hub_serving.specs.Locked.{IsLockedReply}
 use Rattle.fed_hub_serving.specs.declared.served.Served.TheVariants.{Answered, ReadFault, EndedEarly, WriteFault}
 use Rattle.fed_hub_serving.specs.Answered.{AnsweredValue}
 use Rattle.fed_hub_serving.specs.Sections.{Takes, RequestIsTaken, no_memory, served}
@@ -37,6 +41,12 @@ module _ (checks : Checks) (known : List (List ℕ)) (beginning : InboxState) (r
     pub numbered : (new : ServingState) → RequestIsTaken checks known request old reply number new → IsNumbered reply number
     numbered _ (no_memory is none takes) = (λ _. is, λ _. none)
     numbered _ (served new so some) = (λ none. absurd (none-some (length new.points) (sym none ∙ some)), λ is. absurd (so.found is))
+
+-- the same of a request that may wait for room
+pub locked : (checks : Checks) (known : List (List ℕ)) (beginning : InboxState) (request : RequestValue) (old : ServingState) (told : Result InboxReply FullWire) (new : ServingState) → IsKeptFrom checks beginning old
+    → IfOk told (λ (r : InboxReply). RequestIsTaken checks known request old r.reply r.number new) → IfOk told (IsLockedReply checks beginning request)
+locked checks known beginning request old (Ok r) new history taken = (replied checks known beginning request old r.reply r.number new history taken, numbered checks known beginning request old r.reply r.number new taken)
+locked checks known beginning request old (Err full) new history taken = tt
 
 -- of want of memory it tells after any history
 pub replied_for_memory : (checks : Checks) (beginning : InboxState) (request : RequestValue) → IsInboxReply checks beginning request (refused OutOfMemory)

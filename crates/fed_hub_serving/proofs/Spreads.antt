@@ -1,7 +1,7 @@
 -- Events that go over the wires to their rooms, one after another.
-use Rattle.std.proofs.Common.{arith, ◌≡◌, ◌≢◌, ◌⊎◌, inl, inr, ℕ, zero, suc, ◌+◌, ◌<◌, ◌≤◌, ◌==◌, Bool, true, false, if◌then◌else◌, List, [], ◌∷◌, ◌++◌, length, set, take, Option, Some, None, refl, sym, ap, ◌∙◌, subst, append-nil, append_assoc, length-append, length-set, true≢false}
-use Rattle.std.specs.List.{slice_get, filter}
-use Rattle.std.proofs.lemmas.Bool.{cases_eq, eq-eqb, ne_eqb}
+use Rattle.std.proofs.Common.{arith, ◌≡◌, ◌⊎◌, inl, inr, ℕ, zero, suc, ◌-◌, ◌==◌, Bool, true, false, if◌then◌else◌, List, [], ◌∷◌, ◌++◌, length, take, Option, Some, None, refl, sym, ap, ◌∙◌, subst, append-nil, append_assoc, length-append, length-set, true≢false}
+use Rattle.std.specs.List.{slice_get}
+use Rattle.std.proofs.lemmas.Bool.{eq-eqb, ne_eqb}
 use Rattle.std.proofs.lemmas.List.{take-append-le}
 use Rattle.std.proofs.lemmas.List.Elements.{filter-append}
 use Rattle.std.proofs.lemmas.Option.{same_Some, slice_get_within}
@@ -12,7 +12,7 @@ use Rattle.fed_event.specs.Fields.{room_id_of}
 use Rattle.fed_event.specs.Tests.{holds}
 use Rattle.fed_hub_serving.proofs.Places.{set_all}
 use Rattle.fed_inbox.specs.Queues.{for_place}
-use Rattle.fed_wires.specs.SendEnd.{Sender, with_sent, with_returned}
+use Rattle.fed_wires.specs.SendEnd.{with_returned}
 use Rattle.fed_hub_serving.specs.declared.bound.Bound.{Bound}
 use Rattle.fed_hub_serving.specs.declared.end_place.EndPlace.{EndPlace}
 use Rattle.fed_hub_serving.specs.declared.room_wire.RoomWire.{RoomWire}
@@ -24,6 +24,9 @@ use Rattle.fed_hub_serving.specs.Spreading.{Goes, Passes, Spread, SpreadAll, IsF
 no_end : {X : Type 0} (o : Option X) (x : X) → o ≡ None → o ≡ Some x → ⊥
 no_end None x none some = absurd (cc)
 no_end (Some y) x none some = absurd (cc)
+
+none_less : (n : ℕ) → n - 0 ≡ n
+none_less n = omega arith
 
 -- ---- the first of a list and one more
 
@@ -65,10 +68,12 @@ module _ (known : List (List ℕ)) (k : ℕ) where
     Then new = Spread known points k (events ++ event ∷ []) is_shut wire new
 
     all_sent : (more : List CheckedEvent) → for_place known k (events ++ event ∷ []) ≡ for_place known k events ++ more
-        → is_shut ≡ false → wire.ended ≡ None → Then (running (record { wire = wire.end.wire; sent = (wire.end.sent ++ for_place known k events) ++ more; returned = wire.end.returned }))
+        → is_shut ≡ false → wire.ended ≡ None → Then (running (with_all_sent (with_all_sent wire.end (for_place known k events)) more))
     all_sent more is runs none =
-        subst (λ (sent : List CheckedEvent). Then (running (record { wire = wire.end.wire; sent = sent; returned = wire.end.returned })))
-        (ap (λ es. wire.end.sent ++ es) is ∙ sym (append_assoc wire.end.sent (for_place known k events) more)) (spreads.sent runs none)
+        let before = for_place known k events in
+        let left : wire.end.room - length (before ++ more) ≡ wire.end.room - length before - length more = omega (arith, length-append before more) in
+        subst (λ (y : List CheckedEvent × ℕ). Then (running (record { wire = wire.end.wire; sent = y.0; returned = wire.end.returned; room = y.1 })))
+        (λ i. ((ap (λ es. wire.end.sent ++ es) is ∙ sym (append_assoc wire.end.sent before more)) i, (ap (λ (es : List CheckedEvent). wire.end.room - length es) is ∙ left) i)) (spreads.sent runs none)
 
     came_back : (i : ℕ) (e : CheckedEvent) (before : List CheckedEvent) → is_shut ≡ false → wire.ended ≡ None → slice_get (events ++ event ∷ []) i ≡ Some e → IsFor known k e → take i (events ++ event ∷ []) ≡ before
         → Then (record { end = with_returned (with_all_sent wire.end (for_place known k before)); ended = Some (end_place points i) })
@@ -95,8 +100,9 @@ module _ (known : List (List ℕ)) (k : ℕ) where
     stays _ (spreads.back i e runs none there for) other = came_back i e (take i events) runs none (get_more events (event ∷ []) i e there) for (take_fewer events (event ∷ []) i e there)
     stays _ (spreads.sent runs none) (inl shut) = absurd (true≢false (sym shut ∙ runs))
     stays _ (spreads.sent runs none) (inr other) =
-        subst (λ (sent : List CheckedEvent). Then (running (record { wire = wire.end.wire; sent = sent; returned = wire.end.returned })))
-        (append-nil (wire.end.sent ++ for_place known k events))
+        let room = wire.end.room - length (for_place known k events) in
+        subst (λ (y : List CheckedEvent × ℕ). Then (running (record { wire = wire.end.wire; sent = y.0; returned = wire.end.returned; room = y.1 })))
+        (λ i. (append-nil (wire.end.sent ++ for_place known k events) i, none_less room i))
         (all_sent [] (for_more events event ∙ ap (λ es. for_place known k events ++ es) (for_other event other)) runs none)
 
 -- ---- all wires
@@ -110,7 +116,7 @@ module _ (known : List (List ℕ)) (points : ℕ) where
       by (Some at) is = spreads.ended at is
       by None is =
           subst (λ (w : RoomWire). Spread known points k [] false wire w)
-          (λ i. record { end = record { wire = wire.end.wire; sent = append-nil wire.end.sent i; returned = wire.end.returned }; ended = sym is i }) (spreads.sent refl is)
+          (λ i. record { end = record { wire = wire.end.wire; sent = append-nil wire.end.sent i; returned = wire.end.returned; room = none_less wire.end.room i }; ended = sym is i }) (spreads.sent refl is)
 
   pub none_went : (w : WiresState) → SpreadAll known points [] w w
   none_went w = record {

@@ -6,8 +6,11 @@ pub mod Answering
 pub mod Wires
 pub mod WiresParts
 pub mod Spreading
+pub mod WireRoom
+pub mod Unserved
 pub mod Serving
 pub mod Sections
 pub mod Answered
 pub mod Served
+pub mod Locked
 pub mod ServedParts

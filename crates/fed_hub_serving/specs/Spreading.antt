@@ -1,5 +1,5 @@
 -- How events go over the wires to their rooms. The standard says nothing of wires.
-use Rattle.std.specs.Prelude.{◌≡◌, ◌≤◌, ◌+◌, ℕ, List, ◌++◌, Bool, true, false, Option, Some, None, length, take, set, slice_get}
+use Rattle.std.specs.Prelude.{◌≡◌, ◌≤◌, ◌-◌, ℕ, List, ◌++◌, Bool, true, false, Some, None, length, take, set, slice_get}
 use Rattle.fed_dest.specs.List.{place_of}
 use Rattle.fed_event.specs.Checked.{CheckedEvent}
 use Rattle.fed_event.specs.Fields.{room_id_of}
@@ -25,9 +25,9 @@ pub data Passes (bound : Bound) (place : EndPlace) (old : WiresState) : WiresSta
   goes : (k : ℕ) (wire new : RoomWire) → old.is_shut ≡ false → bound.room ≡ Some k → slice_get old.wires k ≡ Some wire → Goes bound.event place wire new
       → Passes bound place old (record { wires = set old.wires k new; is_shut = old.is_shut })
 
--- these events went over a wire, in order
+-- these events went over a wire, in order, each with a credit
 abbrev pub with_all_sent : Sender CheckedEvent → List CheckedEvent → Sender CheckedEvent
-with_all_sent end events = record { wire = end.wire; sent = end.sent ++ events; returned = end.returned }
+with_all_sent end events = record { wire = end.wire; sent = end.sent ++ events; returned = end.returned; room = end.room - length events }
 
 -- an event of the room at place k
 abbrev pub IsFor : List (List ℕ) → ℕ → CheckedEvent → Type 0

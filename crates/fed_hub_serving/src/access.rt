@@ -1,13 +1,16 @@
 // The way to an inbox.
+ghost use Rattle.std.specs.Prelude.{◌≡◌, ◌<◌, length, IfOk, IfErr};
 ghost use Rattle.fed_hub_serving.specs.JudgedRequest.{IsJudged};
 ghost use Rattle.fed_hub_serving.specs.Served.{IsInboxReply, IsTakenIn};
 
+use crate::full_wire::FullWire;
 use crate::inbox_reply::InboxReply;
 use crate::judged_request::JudgedRequest;
 use crate::kept_inbox::KeptInbox;
 use crate::naming::ServingNaming;
 use crate::sections;
 use fed_replies::ReplyStore;
+use fed_wires::{Credit, Credits};
 use std::alloc::Global;
 use std::sync::{Mutex, Wait};
 
@@ -19,17 +22,48 @@ pub trait InboxAccess<N: ServingNaming> {
 
     ghost state: { Self → Option ServingState };
 
-    /// Answers a request that was judged apart from the inbox, as `sections::take` does.
+    /// Answers a request that was judged apart from the inbox, as `sections::take` does. While a wire has no room for its events it waits.
     fn take<R: Wait>(&mut self, rt: &R, alloc: Global, judged: JudgedRequest) -> InboxReply
         requires { IsJudged N.checks N.receiver N.known judged }
         ensures reply { IsInboxReply N.checks N.beginning judged.request result.reply }
         ensures taken { IsTakenIn N.checks N.known judged.request result.reply result.number (state self.old) (state self.new) };
 }
 
+/// An inbox with its lock, and where threads that do not hold it wait for room in the rooms' wires.
+#[derive(Drop)]
+pub struct SharedInbox<N: ServingNaming, S: ReplyStore> {
+    pub inbox: Mutex<KeptInbox<N, S>>,
+    pub credits: Credits,
+    ghost rooms: { credits ≡ length N.rooms },
+}
+
 /// An inbox under its lock.
 #[derive(Drop)]
 pub struct LockedInbox<'a, N: ServingNaming, S: ReplyStore> {
-    pub inbox: &'a Mutex<KeptInbox<N, S>>,
+    pub shared: &'a SharedInbox<N, S>,
+}
+
+impl<N: ServingNaming, S: ReplyStore> LockedInbox<'_, N, S> {
+    ghost use Rattle.fed_hub_serving.specs.Locked.{IsLockedReply};
+
+    // Lays a credit in, if there is one, and tries to take the request.
+    fn try_take<R: Wait>(
+        &self,
+        rt: &R,
+        alloc: Global,
+        credit: Option<Credit>,
+        judged: JudgedRequest,
+    ) -> Result<InboxReply, FullWire>
+        requires { IsJudged N.checks N.receiver N.known judged }
+        ensures reply { IfOk result (IsLockedReply N.checks N.beginning judged.request) }
+        ensures full { IfErr result (λ full. (full.judged ≡ judged) × (full.room < length N.rooms)) }
+    {
+        let mut inbox = self.shared.inbox.lock(rt);
+        if let Some(credit) = credit {
+            inbox.give(credit);
+        }
+        sections::take(rt, alloc, &mut inbox, judged)
+    }
 }
 
 impl<N: ServingNaming, S: ReplyStore> InboxAccess<N> for LockedInbox<'_, N, S> {
@@ -38,7 +72,19 @@ impl<N: ServingNaming, S: ReplyStore> InboxAccess<N> for LockedInbox<'_, N, S> {
     ghost state = { λ _. None };
 
     fn take<R: Wait>(&mut self, rt: &R, alloc: Global, judged: JudgedRequest) -> InboxReply {
-        sections::take(rt, alloc, &mut self.inbox.lock(rt), judged)
+        let mut judged = judged;
+        let mut credit = None;
+        for _ in rt.forever() {
+            match self.try_take(rt, alloc, credit, judged) {
+                Ok(reply) => return reply,
+                Err(full) => {
+                    // No lock is held here.
+                    credit = self.shared.credits.wait(rt, full.room);
+                    judged = full.judged;
+                }
+            }
+        }
+        unreachable!()
     }
 }
 
@@ -48,6 +94,16 @@ impl<N: ServingNaming, S: ReplyStore> InboxAccess<N> for KeptInbox<N, S> {
     ghost state = { λ inbox. Some inbox };
 
     fn take<R: Wait>(&mut self, rt: &R, alloc: Global, judged: JudgedRequest) -> InboxReply {
-        sections::take(rt, alloc, self, judged)
+        let mut judged = judged;
+        for _ in rt.forever() {
+            match sections::take(rt, alloc, self, judged) {
+                Ok(reply) => return reply,
+                Err(full) => {
+                    self.wait(rt, full.room);
+                    judged = full.judged;
+                }
+            }
+        }
+        unreachable!()
     }
 }

@@ -1,15 +1,17 @@
 // An inbox under its lock.
-ghost use Rattle.std.specs.Prelude.{◌≡◌, ◌≢◌, [], false, true, None, IfOk, OnErr, length, replicate};
+ghost use Rattle.std.specs.Prelude.{◌≡◌, ◌≢◌, ◌<◌, [], false, true, None, IfOk, IfErr, OnErr, length, replicate};
 ghost use Rattle.fed_inbox.specs.History.{IsHistory};
 ghost use Rattle.fed_inbox.specs.Receiver.{IsInboxOf};
 ghost use Rattle.fed_hub_serving.specs.Wires.{AreUnused, names_of};
 ghost use Rattle.fed_hub_serving.specs.JudgedRequest.{IsJudged};
 ghost use Rattle.fed_hub_serving.specs.Serving.{IsKeptFrom, AreLeft, with_rooms_ended};
 ghost use Rattle.fed_hub_serving.specs.Sections.{RequestIsTaken, IsServed};
+ghost use Rattle.fed_hub_serving.specs.Unserved.{IsUnserved};
 
 use crate::answering::{Answered, answer};
 use crate::bound::Bound;
 use crate::end_place::EndPlace;
+use crate::full_wire::{FullWire, Unserved};
 use crate::inbox_reply::InboxReply;
 use crate::judged_request::JudgedRequest;
 use crate::kept_point::KeptPoint;
@@ -21,7 +23,7 @@ use fed_http::Reply;
 use fed_inbox::{Inbox, Refusal};
 use fed_json::NoMemory;
 use fed_replies::ReplyStore;
-use fed_wires::{AnyMessage, SendEnd};
+use fed_wires::{AnyMessage, Credit, SendEnd};
 use std::alloc::Global;
 use std::marker::{Model, PhantomData};
 use std::sync::Wait;
@@ -53,7 +55,10 @@ impl<N: ServingNaming, S: ReplyStore> Model for KeptInbox<N, S> {
 }
 
 impl<N: ServingNaming, S: ReplyStore + Drop> KeptInbox<N, S> {
-    /// An inbox that has answered no request, with the ends that send of the rooms' wires, over which nothing went.
+    /// An inbox that has answered no request, with the ends that send of the rooms' wires, over which nothing went. Who waits for room in the
+    /// wires has [`Credits`] of the ends, made before.
+    ///
+    /// [`Credits`]: fed_wires::Credits
     pub fn new(
         alloc: Global,
         inbox: Inbox<S>,
@@ -100,6 +105,20 @@ impl<N: ServingNaming, S: ReplyStore> KeptInbox<N, S> {
         self.wires.ended()
     }
 
+    /// Waits until there is more room in the wire to the room at this place, or until its other end is gone.
+    pub(crate) fn wait<R: Wait>(&mut self, rt: &R, room: usize)
+        ensures { self.new ≡ self.old }
+    {
+        self.wires.wait(rt, room);
+    }
+
+    /// Takes in a credit that was waited for, of the wire to the room at its place. Where that has ended it is let go.
+    pub fn give(&mut self, credit: Credit)
+        ensures { self.new ≡ self.old }
+    {
+        self.wires.give(credit);
+    }
+
     /// Ends the wires of all rooms, each here where it has not ended before: what is taken from now on goes to no room. It takes no memory.
     pub fn end_rooms(&mut self)
         ensures { self.new ≡ with_rooms_ended self.old }
@@ -111,26 +130,36 @@ impl<N: ServingNaming, S: ReplyStore> KeptInbox<N, S> {
     /// Answers a request that was judged apart from the inbox, keeps it with its reply among the history, and sends the events that it brings
     /// over the wires to their rooms. With the reply it gives the number of the new point. Where memory runs out it answers 500 without a
     /// number, and all is as it was.
+    ///
+    /// # Errors
+    ///
+    /// Where the wire to a room was found to have no room for all events that the request may bring for it; all is then as it was.
     pub(crate) fn take<R: Wait>(
         &mut self,
         rt: &R,
         alloc: Global,
         judged: JudgedRequest,
-    ) -> InboxReply
+    ) -> Result<InboxReply, FullWire>
         requires { IsJudged N.checks N.receiver N.known judged }
-        ensures taken { RequestIsTaken N.checks N.known judged.request self.old result.reply result.number self.new }
+        ensures taken { IfOk result (λ r. RequestIsTaken N.checks N.known judged.request self.old r.reply r.number self.new) }
+        ensures full { IfErr result (λ full. (full.judged ≡ judged) × (full.room < length N.rooms)) }
+        ensures same { OnErr result (self.new ≡ self.old) }
         ensures history { IsKeptFrom N.checks N.beginning self.old }
     {
-        let Ok(reply) = self.serve(rt, alloc, judged) else {
-            return InboxReply {
-                reply: Reply::from(Refusal::OutOfMemory),
-                number: None,
-            };
+        let reply = match self.serve(rt, alloc, judged) {
+            Ok(reply) => reply,
+            Err(Unserved::Full(full)) => return Err(full),
+            Err(Unserved::Memory) => {
+                return Ok(InboxReply {
+                    reply: Reply::from(Refusal::OutOfMemory),
+                    number: None,
+                });
+            }
         };
-        InboxReply {
+        Ok(InboxReply {
             reply,
             number: Some(self.points.len() as u64),
-        }
+        })
     }
 
     // The same, but for the reply where memory runs out.
@@ -139,12 +168,16 @@ impl<N: ServingNaming, S: ReplyStore> KeptInbox<N, S> {
         rt: &R,
         alloc: Global,
         judged: JudgedRequest,
-    ) -> Result<Reply, NoMemory>
+    ) -> Result<Reply, Unserved>
         requires { IsJudged N.checks N.receiver N.known judged }
         ensures served { IfOk result (λ reply. IsServed N.checks N.known judged.request self.old reply self.new) }
+        ensures unserved { IfErr result (IsUnserved (length N.rooms) judged) }
         ensures err { OnErr result (self.new ≡ self.old) }
         ensures history { IsKeptFrom N.checks N.beginning self.old }
     {
+        if let Some(room) = self.wires.full_among(rt, &judged.bound) {
+            return Err(Unserved::Full(FullWire { judged, room }));
+        }
         let JudgedRequest {
             request,
             comes_to,

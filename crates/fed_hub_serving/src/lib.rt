@@ -11,9 +11,10 @@
 //! - `judged_request`: `JudgedRequest`, a request that was read and judged apart from the inbox
 //! - `bound`: events on their way to their rooms
 //! - `answering`: what an inbox answers to a request that was judged
+//! - `full_wire`: `FullWire`, a request that was not taken, since a room's wire is full
 //! - `sections`: what a thread does while it holds the lock
 //! - `serving`: `serve_one`, which reads a request, answers it and writes the reply, and `ServingDesk`, what the threads that do share
-//! - `access`: `InboxAccess`, the way to the inbox, as a `LockedInbox` is
+//! - `access`: `InboxAccess`, the way to the inbox, as a `LockedInbox` is to a `SharedInbox`
 //! - `serve_token`: `ServeToken`, the requests that such a thread answered, each an `AnsweredRequest`; `served`: `Served`, what became of one
 //! - `comparing`: whether requests and replies are equal
 #![tactic(auto)]
@@ -23,6 +24,7 @@ mod answering;
 mod bound;
 mod comparing;
 mod end_place;
+mod full_wire;
 mod inbox_reply;
 mod judged_request;
 mod kept_inbox;
@@ -35,8 +37,9 @@ mod serve_token;
 mod served;
 mod serving;
 
-pub use access::{InboxAccess, LockedInbox};
+pub use access::{InboxAccess, LockedInbox, SharedInbox};
 pub use end_place::EndPlace;
+pub use full_wire::FullWire;
 pub use inbox_reply::InboxReply;
 pub use judged_request::JudgedRequest;
 pub use kept_inbox::KeptInbox;

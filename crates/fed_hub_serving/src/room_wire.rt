@@ -1,12 +1,13 @@
 // The wire of a room.
-ghost use Rattle.std.specs.Prelude.{◌≡◌, MatchBool};
+ghost use Rattle.std.specs.Prelude.{◌≡◌, ◌<◌, ◌≤◌, None, IsTrue, MatchBool};
 ghost use Rattle.fed_wires.specs.SendEnd.{with_sent, with_returned};
 ghost use Rattle.fed_hub_serving.specs.Spreading.{Goes};
+ghost use Rattle.fed_hub_serving.specs.WireRoom.{with_credits};
 ghost use Rattle.fed_hub_serving.specs.Wires.{ended_at, ended_of};
 
 use crate::end_place::EndPlace;
 use fed_event::Checked;
-use fed_wires::{AnyMessage, SendEnd, SendPass};
+use fed_wires::{AnyMessage, Credit, SendEnd, SendPass};
 use std::sync::Wait;
 
 /// The end that sends of a room's wire, and where the wire ended, if it has.
@@ -17,8 +18,34 @@ pub(crate) struct RoomWire {
 }
 
 impl RoomWire {
+    /// Whether it may be sent so many events more: there is room for them, or it has ended and takes none. It waits for no room.
+    pub(crate) fn has_room<R: Wait>(&mut self, rt: &R, count: usize) -> bool
+        ensures same { self.new ≡ with_credits self.old self.new.end.room }
+        ensures more { self.old.end.room ≤ self.new.end.room }
+        ensures room { IsTrue result → self.new.ended ≡ None → count ≤ self.new.end.room }
+    {
+        self.ended.is_some() || self.end.has_room(rt, count)
+    }
+
+    /// Waits until there is more room, or until the other end is gone.
+    pub(crate) fn wait<R: Wait>(&mut self, rt: &R)
+        ensures same { self.new ≡ with_credits self.old self.new.end.room }
+        ensures more { self.old.end.room ≤ self.new.end.room }
+    {
+        self.end.wait(rt);
+    }
+
+    /// Takes in a credit that was waited for.
+    pub(crate) fn give(&mut self, credit: Credit)
+        ensures same { self.new ≡ with_credits self.old self.new.end.room }
+        ensures more { self.old.end.room ≤ self.new.end.room }
+    {
+        self.end.give(credit);
+    }
+
     /// Sends an event, unless the wire has ended. Where the event comes back the wire has ended at this place, and the event is let go.
     pub(crate) fn send<R: Wait>(&mut self, rt: &R, event: Checked, place: EndPlace)
+        requires { self.old.ended ≡ None → 0 < self.old.end.room }
         ensures { Goes event place self.old self.new }
     {
         if self.ended.is_some() {
@@ -43,6 +70,7 @@ impl RoomWire {
 
 // Sends an event, and says whether it went. One that comes back is let go.
 fn goes<R: Wait>(rt: &R, end: &mut SendEnd<Checked, AnyMessage>, event: Checked) -> bool
+    requires { 0 < end.old.room }
     ensures { MatchBool result (end.new ≡ with_sent end.old event) (end.new ≡ with_returned end.old) }
 {
     end.send(rt, event).is_ok()

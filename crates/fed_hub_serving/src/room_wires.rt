@@ -1,8 +1,9 @@
 // The wires of a server's rooms.
-ghost use Rattle.std.specs.Prelude.{◌≡◌, ◌+◌, ◌≤◌, ◌++◌, [], false, length, map, IfOk, vec_capacity};
+ghost use Rattle.std.specs.Prelude.{◌≡◌, ◌+◌, ◌<◌, ◌≤◌, ◌++◌, ◌∷◌, [], false, Some, length, map, IfOk, MatchOption, vec_capacity};
 ghost use Rattle.fed_hub_serving.specs.Bound.{AreBound, events_in};
 ghost use Rattle.fed_hub_serving.specs.Brought.{end_place};
 ghost use Rattle.fed_hub_serving.specs.Spreading.{Passes, SpreadAll};
+ghost use Rattle.fed_hub_serving.specs.WireRoom.{HaveTakenIn, HaveRoom, HaveRoomTo, is_bound_for, count_for};
 ghost use Rattle.fed_hub_serving.specs.Wires.{running, ended_of, ended_at, all_ended};
 
 use crate::bound::Bound;
@@ -11,7 +12,7 @@ use crate::naming::ServingNaming;
 use crate::room_wire::{EndedWire, RoomWire};
 use fed_event::Checked;
 use fed_json::NoMemory;
-use fed_wires::{AnyMessage, SendEnd};
+use fed_wires::{AnyMessage, Credit, SendEnd};
 use std::alloc::Global;
 use std::marker::Model;
 use std::sync::Wait;
@@ -69,8 +70,41 @@ impl RoomWires {
         &self.ended
     }
 
+    /// The place of a room of these events whose wire has no room for all that are for it, where there is one. It waits for no room.
+    pub(crate) fn full_among<R: Wait>(&mut self, rt: &R, bound: &[Bound]) -> Option<usize>
+        ensures same { HaveTakenIn self.old.wires self.new.wires }
+        ensures shut { self.new.is_shut ≡ self.old.is_shut }
+        ensures full { MatchOption result (HaveRoom bound.now self.new.wires) (λ k. k < length self.old.wires) }
+    {
+        full_among(rt, &mut self.running, bound)
+    }
+
+    /// Waits until there is more room in the wire to the room at this place, or until its other end is gone. Where it has ended it does not wait.
+    pub(crate) fn wait<R: Wait>(&mut self, rt: &R, room: usize)
+        ensures same { HaveTakenIn self.old.wires self.new.wires }
+        ensures shut { self.new.is_shut ≡ self.old.is_shut }
+    {
+        if room < self.running.len() {
+            let wire = &mut self.running[room];
+            wire.wait(rt);
+        }
+    }
+
+    /// Takes in a credit that was waited for, of the wire to the room at its place. Where they are all ended it is let go.
+    pub(crate) fn give(&mut self, credit: Credit)
+        ensures same { HaveTakenIn self.old.wires self.new.wires }
+        ensures shut { self.new.is_shut ≡ self.old.is_shut }
+    {
+        let room = credit.place();
+        if room < self.running.len() {
+            let wire = &mut self.running[room];
+            wire.give(credit);
+        }
+    }
+
     /// Sends an event over the wire to its room. Where it comes back the wire has ended at this place.
     pub(crate) fn pass_on<R: Wait>(&mut self, rt: &R, bound: Bound, place: EndPlace)
+        requires { HaveRoom (bound ∷ []) self.old.wires }
         ensures { Passes bound place self.old self.new }
     {
         let Bound { room, event } = bound;
@@ -89,7 +123,8 @@ impl RoomWires {
         points: usize,
         bound: Vec<Bound>,
     )
-        requires { AreBound N.known bound.items }
+        requires bound { AreBound N.known bound.items }
+        requires room { HaveRoom bound.items self.old.wires }
         ensures { SpreadAll N.known points (events_in bound.items) self.old self.new }
     {
         let mut events = 0;
@@ -107,6 +142,53 @@ impl RoomWires {
         let running = std::mem::replace(&mut self.running, Vec::new(alloc));
         end_each(running, &mut self.ended, place);
         self.is_shut = true;
+    }
+}
+
+// The place of a room of these events whose wire has no room for all that are for it.
+fn full_among<R: Wait>(rt: &R, wires: &mut [RoomWire], bound: &[Bound]) -> Option<usize>
+    ensures same { HaveTakenIn wires.old wires.new }
+    ensures full { MatchOption result (HaveRoom bound.now wires.new) (λ k. k < length wires.old) }
+{
+    for one in bound {
+        if let Some(room) = full_for(rt, wires, one, bound) {
+            return Some(room);
+        }
+    }
+    None
+}
+
+// The place of the room of an event, where its wire has no room for all of these events that are for it.
+fn full_for<R: Wait>(rt: &R, wires: &mut [RoomWire], one: &Bound, bound: &[Bound]) -> Option<usize>
+    ensures same { HaveTakenIn wires.old wires.new }
+    ensures full { MatchOption result (HaveRoomTo (λ k. one.now.room ≡ Some k) bound.now wires.new) (λ k. k < length wires.old) }
+{
+    let room = one.room?;
+    if room >= wires.len() {
+        return None;
+    }
+    let count = count_for(bound, room);
+    let wire = &mut wires[room];
+    if wire.has_room(rt, count) {
+        return None;
+    }
+    Some(room)
+}
+
+// How many of these events are for the room at this place.
+fn count_for(bound: &[Bound], room: usize) -> usize
+    ensures { result ≡ count_for room bound.now }
+{
+    bound.iter().filter(|one| is_for(one, room)).count()
+}
+
+// Whether an event is for the room at this place.
+fn is_for(one: &Bound, room: usize) -> bool
+    ensures { result ≡ is_bound_for room one.now }
+{
+    match one.room {
+        Some(place) => place == room,
+        None => false,
     }
 }
 

@@ -1,10 +1,15 @@
 //! The sections: what a thread does while it holds the inbox's lock. Each is one function that is lent what lies under it, and what it does is
 //! the definition of the same step at a server of one thread.
-ghost use Rattle.std.specs.Prelude.{◌≡◌};
+//!
+//! No section waits for room in a wire. Take asks first whether each wire has room for all the events that the request may bring for its room,
+//! and gives the request back where one has not. The thread then lets the lock go, waits for a credit of that wire (`fed_wires::Credits`), takes
+//! the lock, lays it in ([`KeptInbox::give`]) and takes the same request.
+ghost use Rattle.std.specs.Prelude.{◌≡◌, ◌<◌, length, IfOk, IfErr, OnErr};
 ghost use Rattle.fed_hub_serving.specs.JudgedRequest.{IsJudged};
 ghost use Rattle.fed_hub_serving.specs.Serving.{IsKeptFrom};
 ghost use Rattle.fed_hub_serving.specs.Sections.{RequestIsTaken};
 
+use crate::full_wire::FullWire;
 use crate::inbox_reply::InboxReply;
 use crate::judged_request::JudgedRequest;
 use crate::kept_inbox::KeptInbox;
@@ -16,14 +21,20 @@ use std::sync::Wait;
 /// Take: a request that was judged apart from the inbox is answered. Where its transaction was taken before it gets the kept reply; else it is
 /// taken where it is to be, and its events go over the wires to their rooms. The request is kept with its reply as a point of the history, and
 /// the point's number is given; but where memory runs out the answer is 500, without a number, and all is as it was.
+///
+/// # Errors
+///
+/// Where the wire to a room was found to have no room for all events that the request may bring for it; all is then as it was.
 pub fn take<N: ServingNaming, S: ReplyStore, R: Wait>(
     rt: &R,
     alloc: Global,
     inbox: &mut KeptInbox<N, S>,
     judged: JudgedRequest,
-) -> InboxReply
+) -> Result<InboxReply, FullWire>
     requires { IsJudged N.checks N.receiver N.known judged }
-    ensures taken { RequestIsTaken N.checks N.known judged.request inbox.old result.reply result.number inbox.new }
+    ensures taken { IfOk result (λ r. RequestIsTaken N.checks N.known judged.request inbox.old r.reply r.number inbox.new) }
+    ensures full { IfErr result (λ full. (full.judged ≡ judged) × (full.room < length N.rooms)) }
+    ensures same { OnErr result (inbox.new ≡ inbox.old) }
     ensures history { IsKeptFrom N.checks N.beginning inbox.old }
 {
     inbox.take(rt, alloc, judged)

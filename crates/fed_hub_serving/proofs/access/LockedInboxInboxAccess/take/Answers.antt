@@ -1,14 +1,17 @@
+use Rattle.std.proofs.Common.{sym, subst}
 use Rattle.std.specs.Prelude.{None}
-use Rattle.fed_hub_serving.specs.Served.{hidden}
-use Rattle.fed_hub_serving.proofs.Replies.{replied, numbered}
+use Rattle.fed_hub_serving.specs.declared.judged_request.JudgedRequest.{JudgedRequest}
+use Rattle.fed_hub_serving.specs.JudgedRequest.{IsJudged}
+use Rattle.fed_hub_serving.specs.Served.{IsInboxReply, hidden}
 use Rattle.fed_hub_serving.proofs.access.LockedInboxInboxAccess.take.Goals as goal
 
-pub returns-clause-reply : goal.returns-clause-reply
-returns-clause-reply g c =
-    let N = g.N.ServingNaming in
-    replied N.checks N.known N.beginning c.args.judged.request _ c.take.result.reply c.take.result.number _ c.take.ensures.history c.take.ensures.taken
+pub try_take-requires : goal.try_take-requires
+try_take-requires g c = let N = g.N.ServingNaming in subst (IsJudged N.checks N.receiver N.known) (sym c.loop.invariant) c.requires
 
-pub returns-clause-taken : goal.returns-clause-taken
-returns-clause-taken g c =
+pub returns-in-Ok-clause-reply : goal.returns-in-Ok-clause-reply
+returns-in-Ok-clause-reply g c =
     let N = g.N.ServingNaming in
-    hidden None (numbered N.checks N.known N.beginning c.args.judged.request _ c.take.result.reply c.take.result.number _ c.take.ensures.taken)
+    subst (λ (j : JudgedRequest). IsInboxReply N.checks N.beginning j.request c.in-Ok.reply.reply) c.loop.invariant c.in-Ok.ensures.reply.0
+
+pub returns-in-Ok-clause-taken : goal.returns-in-Ok-clause-taken
+returns-in-Ok-clause-taken g c = hidden None c.in-Ok.ensures.reply.1
