@@ -9,3 +9,5 @@ mod ById
 mod InRooms
 mod InPlaces
 mod SameIds
+mod Arrivals
+mod PlacesById

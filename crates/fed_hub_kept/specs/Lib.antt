@@ -3,3 +3,5 @@ pub mod Left
 pub mod OfJournal
 pub mod Sent
 pub mod Answered
+pub mod Brought
+pub mod Unfound

@@ -1,4 +1,4 @@
-use Rattle.std.proofs.Common.{◌≡◌, ◌<◌, length, string_bytes, refl, sym, ap, ◌∙◌, subst}
+use Rattle.std.proofs.Common.{◌≡◌, ◌<◌, length, string_bytes, sym, ◌∙◌, subst}
 use Rattle.std.proofs.lemmas.Bool.{false≢true}
 use Rattle.fed_hub_state.specs.KeptRoom.{id_of}
 use Rattle.fed_hub_kept.proofs.SameIds.{equal_texts, other_texts, same_here, same_more}
