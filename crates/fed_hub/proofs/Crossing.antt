@@ -19,6 +19,7 @@ use Rattle.fed_dest.proofs.list.List.TheSendSync as list
 use Rattle.fed_dest.proofs.server_index.ServerIndex.TheSendSync as index
 use Rattle.fed_wires.proofs.board.Board.TheSendSync as board
 use Rattle.fed_wires.proofs.board.Seat.TheSendSync as board_seat
+use Rattle.fed_wires.proofs.credits.Credits.TheSendSync as credits
 use Rattle.fed_hub_state.proofs.Crossing.{declared_send, declared_sync, parcel_send, receive_end_send, kept_room_send, seated_outbox_send, sending_journal_send}
 use Rattle.serde_json.proofs.value.Value.TheLaws.TheKnot
 use Rattle.fed_hub_told.specs.contracts.told.Told as told
@@ -84,8 +85,11 @@ hub_sync N K names serves signs k = view_sync _ _ _ _ _ (declared_sync (hub_insi
           (
             search (sending_journal_send, mutex.the_sync, crossing.crosses, sendable) depth 60 fits 20000,
             (
-              search (seated_outbox_send, mutex.the_sync, vec.the_sync, crossing.crosses, sendable) depth 60 fits 20000,
-              (reception_sync N serves, (board.the_sync, (search sendable depth 60, (search sendable depth 60, tt)))),
+              credits.the_sync,
+              (
+                search (seated_outbox_send, mutex.the_sync, vec.the_sync, crossing.crosses, sendable) depth 60 fits 20000,
+                (reception_sync N serves, (board.the_sync, (search sendable depth 60, (search sendable depth 60, tt)))),
+              ),
             ),
           ),
         ),

@@ -7,6 +7,8 @@ pub mod Going
 pub mod Loaded
 pub mod Readied
 pub mod Sendings
+pub mod Nexts
+pub mod Shut
 pub mod Made
 pub mod Receiving
 pub mod Named
@@ -14,3 +16,4 @@ pub mod Given
 pub mod ServingCrossing
 pub mod Crossing
 pub mod Ending
+pub mod Ended

@@ -1,7 +1,8 @@
 -- What the threads that serve share, and the inbox under its lock, may go to another thread or be shared. Each type is shown by its parts, since a
 -- search for all of them at once finds nothing.
 use denote.RattleType.{RattleType}
-use denote.Param.Send.{IsSend, IsSync, sendable, view_send, view_sync}
+use denote.Param.Send.{IsSend, IsSync, sendable, struct_sync, view_send, view_sync}
+use denote.Struct.Declared.{shape}
 use Rattle.std.proofs.Crossing as crossing
 use Rattle.std.proofs.MapsCrossing as maps
 use Rattle.std.proofs.vec.Vec.TheSendSync as vec
@@ -12,6 +13,7 @@ use Rattle.fed_wires.specs.contracts.ends.SendEnd as sender
 use Rattle.fed_wires.specs.contracts.ends.SendPass as pass
 use Rattle.fed_wires.proofs.ends.SendEnd.TheSendSync as send
 use Rattle.fed_wires.proofs.ends.SendPass.TheSendSync as send_pass
+use Rattle.fed_wires.proofs.credits.Credits.TheSendSync as credits
 use Rattle.fed_wires.specs.contracts.numbering.AnyMessage as any_message
 use Rattle.fed_wires.specs.contracts.numbering.AnyMessageNumbering.TheImpl as numbers
 use Rattle.fed_replies.specs.contracts.packed_store.PackedStore as packed_store
@@ -23,6 +25,7 @@ use Rattle.fed_hub_serving.specs.contracts.room_wires.RoomWires as wires
 use Rattle.fed_hub_serving.specs.contracts.room_wires.RoomWires.TheInside as wires_inside
 use Rattle.fed_hub_serving.specs.contracts.kept_inbox.KeptInbox as kept
 use Rattle.fed_hub_serving.specs.contracts.kept_inbox.KeptInbox.TheInside as kept_inside
+use Rattle.fed_hub_serving.specs.contracts.access.SharedInbox as shared
 use Rattle.fed_hub_serving.specs.declared.naming.ServingNaming as naming
 use Rattle.fed_hub_state.proofs.Crossing.{declared_send, declared_sync}
 use Rattle.fed_hub_rooms.proofs.Crossing.{checked_send}
@@ -56,11 +59,14 @@ kept_inbox_send N names = view_send _ _ _ _ _ (declared_send (kept_inside.the_ty
   (search (point_send, vec.the_send, crossing.crosses, sendable) depth 60 fits 20000, (wires_send, (search sendable depth 60, tt))),
 ))
 
+shared_inbox_sync : (N : RattleType) (names : naming.Ghosts N.Denot) → IsSync (shared.the_field N packed_store.the_row names keeps.ghosts).row
+shared_inbox_sync N names = struct_sync (shape (shared.the_type N packed_store.the_row names keeps.ghosts)) (search (kept_inbox_send, mutex.the_sync, crossing.crosses, sendable) depth 60 fits 20000, (credits.the_sync, tt))
+
 receiver_sync : IsSync receiver.the_row
 receiver_sync = search (maps.crosses, crossing.crosses, sendable) depth 60 fits 20000
 
 pub reception_sync : (N : RattleType) (names : naming.Ghosts N.Denot) → IsSync (reception.the_row N names)
 reception_sync N names = view_sync _ _ _ _ _ (declared_sync (reception_inside.the_type N names) (
   search (vec.the_sync, crossing.crosses, sendable) depth 60 fits 20000,
-  (receiver_sync, (search (kept_inbox_send, mutex.the_sync, crossing.crosses, sendable) depth 60 fits 20000, tt)),
+  (receiver_sync, (shared_inbox_sync N names, tt)),
 ))

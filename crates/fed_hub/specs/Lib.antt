@@ -11,6 +11,7 @@ pub mod Held
 pub mod Tokens
 pub mod Finishing
 pub mod Report
+pub mod Seats
 pub mod Rest
 pub mod Ready
 pub mod Offering

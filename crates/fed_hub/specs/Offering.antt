@@ -1,5 +1,5 @@
 -- What a hub tells of what clients offer, and what their tokens are then.
-use Rattle.std.specs.Prelude.{◌≡◌, ℕ, List, true, false, None, Some, Result, Ok, Err}
+use Rattle.std.specs.Prelude.{◌≡◌, ◌<◌, ℕ, List, true, false, None, Some, Result, Ok, Err}
 use Rattle.serde_json.specs.Data.{Data}
 use Rattle.fed_event.specs.EventId.{event_id_of}
 use Rattle.fed_room_contract.specs.declared.refusal.Refusal.TheVariants as refusal
@@ -18,6 +18,8 @@ use Rattle.fed_hub.specs.declared.faults.SendFault.TheVariants as send
 use Rattle.fed_hub.specs.declared.faults.EduFault.{EduFault}
 use Rattle.fed_hub.specs.declared.faults.EduFault.TheVariants as edu
 use Rattle.fed_hub.specs.declared.offering.Sent.{Sent}
+use Rattle.fed_hub.specs.declared.offering.Unsent.{Unsent}
+use Rattle.fed_hub.specs.declared.offering.Unsent.TheVariants.{Refused, Full}
 use Rattle.fed_hub.specs.Hub.{HubShape}
 use Rattle.fed_hub.specs.Setup.{has_room}
 
@@ -44,19 +46,29 @@ IsSent hub draft client (Err send.Memory) after = IsOfHub hub draft × IsToldNot
 abbrev pub Stays : KeptState → ToldState → KeptState → ToldState → Type 0
 Stays room client stored after = (room_of stored.room ≡ room_of room.room) × IsToldNothing client after
 
--- Of a draft in its room: the event that the room makes of it is stored there, and its id is told; or why it is not, by the room's rules, in their
--- order, or since the journal takes nothing or has no place.
-abbrev pub IsSentIn : Signer → DraftFields → KeptState → ToldState → Result Sent SendFault → KeptState → ToldState → Type 0
-IsSentIn signer draft room client (Ok sent) stored after =
-    (p : PreparedEvent) × (prepared_of room_rules signer (room_of room.room).stored draft ≡ Ok p) × (sent.event_id ≡ event_id_of p.event.event)
+-- the room makes an event of a draft
+abbrev pub IsMadeOf : Signer → DraftFields → KeptState → PreparedEvent → Type 0
+IsMadeOf signer draft room p = prepared_of room_rules signer (room_of room.room).stored draft ≡ Ok p
+
+-- Why a draft is refused in its room: by the room's rules, in their order; or since the journal takes nothing or has no place, or memory ran out.
+abbrev pub IsRefusedIn : Signer → DraftFields → KeptState → SendFault → Type 0
+IsRefusedIn signer draft room send.NotOwnUser = prepared_of room_rules signer (room_of room.room).stored draft ≡ Err refusal.NotOwnUser
+IsRefusedIn signer draft room (send.BadDraft fault) = prepared_of room_rules signer (room_of room.room).stored draft ≡ Err (refusal.BadDraft fault)
+IsRefusedIn signer draft room (send.NotAllowed rule) = prepared_of room_rules signer (room_of room.room).stored draft ≡ Err (refusal.NotAllowed rule)
+IsRefusedIn signer draft room send.ShutDown = (p : PreparedEvent) × IsMadeOf signer draft room p
+IsRefusedIn signer draft room send.Limit = (p : PreparedEvent) × IsMadeOf signer draft room p
+IsRefusedIn signer draft room send.Memory = is_own_user signer.name draft.sender ≡ true
+IsRefusedIn signer draft room send.UnknownRoom = ⊥
+
+-- Of a draft in its room: the event that the room makes of it is stored there, and its id is told; or why it is not; or it is made, one of so many
+-- wires has no room, and the same draft comes back.
+abbrev pub IsSentIn : Signer → ℕ → DraftFields → KeptState → ToldState → Result Sent Unsent → KeptState → ToldState → Type 0
+IsSentIn signer wires draft room client (Ok sent) stored after =
+    (p : PreparedEvent) × IsMadeOf signer draft room p × (sent.event_id ≡ event_id_of p.event.event)
     × (room_of stored.room ≡ committed (room_of room.room) p.event) × IsToldOf (told_of draft sent) client after
-IsSentIn signer draft room client (Err send.NotOwnUser) stored after = (prepared_of room_rules signer (room_of room.room).stored draft ≡ Err refusal.NotOwnUser) × Stays room client stored after
-IsSentIn signer draft room client (Err (send.BadDraft fault)) stored after = (prepared_of room_rules signer (room_of room.room).stored draft ≡ Err (refusal.BadDraft fault)) × Stays room client stored after
-IsSentIn signer draft room client (Err (send.NotAllowed rule)) stored after = (prepared_of room_rules signer (room_of room.room).stored draft ≡ Err (refusal.NotAllowed rule)) × Stays room client stored after
-IsSentIn signer draft room client (Err send.ShutDown) stored after = (p : PreparedEvent) × (prepared_of room_rules signer (room_of room.room).stored draft ≡ Ok p) × Stays room client stored after
-IsSentIn signer draft room client (Err send.Limit) stored after = (p : PreparedEvent) × (prepared_of room_rules signer (room_of room.room).stored draft ≡ Ok p) × Stays room client stored after
-IsSentIn signer draft room client (Err send.Memory) stored after = (is_own_user signer.name draft.sender ≡ true) × Stays room client stored after
-IsSentIn signer draft room client (Err send.UnknownRoom) stored after = ⊥
+IsSentIn signer wires draft room client (Err (Refused fault)) stored after = IsRefusedIn signer draft room fault × Stays room client stored after
+IsSentIn signer wires draft room client (Err (Full dest same)) stored after =
+    ((p : PreparedEvent) × IsMadeOf signer draft room p) × (dest < wires) × (same ≡ draft) × Stays room client stored after
 
 -- of an ephemeral data unit, for these destinations
 abbrev pub IsEduOffered : Data → List ℕ → ToldState → Result ℕ EduFault → ToldState → Type 0

@@ -26,5 +26,6 @@ pub record IsOpened (o : Inside) : Type 0 where
   pub some : 0 < length (wires_of o.ends.items)
   pub owners : AreOwners o.board.id o.owners.items
   pub readers : AreReaders o.board.id (length o.lent.readers.items) o.lent.readers.items
+  pub all_readers : o.board.readers ≡ length o.lent.readers.items
   pub parts : o.events.parts ≡ o.lent.clients
   pub edu_parts : o.edus.parts ≡ o.lent.clients

@@ -1,5 +1,5 @@
 -- What the threads of a new hub hold.
-use Rattle.std.specs.Prelude.{◌≡◌, ◌+◌, ◌==◌, length, not, filter, map, ℕ, List, [], replicate}
+use Rattle.std.specs.Prelude.{◌≡◌, ◌≤◌, ◌+◌, ◌==◌, length, not, filter, map, ℕ, List, [], replicate}
 use Rattle.std.specs.List.{range_with_len}
 use Rattle.fed_hub_rooms.specs.RoomHeld as room
 use Rattle.fed_hub_serving.specs.Answered.{AnsweredValue}
@@ -39,6 +39,14 @@ pub record AreAllTokens {N : Type 0} (hub : HubShape) (wired : ℕ) (tokens : To
   pub each_sender : length tokens.senders.items + 1 ≡ length hub.list
   pub each_room : length tokens.rooms.items ≡ wired
   pub each_server : length tokens.servers.items ≡ length hub.list
+
+-- Of each kind there are no fewer than such a hub gave to its threads: none of these is missing.
+pub record AreNoneMissing {N : Type 0} (hub : HubShape) (wired : ℕ) (tokens : Tokens N) : Type 0 where
+  pub clients : hub.clients ≤ length tokens.clients.items
+  pub readers : hub.readers ≤ length tokens.readers.items
+  pub senders : length hub.list ≤ length tokens.senders.items + 1
+  pub rooms : wired ≤ length tokens.rooms.items
+  pub servers : length hub.list ≤ length tokens.servers.items
 
 -- the same tokens, in the same order
 pub record AreSameTokens {N : Type 0} (old new : Tokens N) : Type 0 where

@@ -1,13 +1,12 @@
 // Why a hub refuses what it is asked.
 ghost use Rattle.std.specs.Prelude.{◌≡◌};
-ghost use Rattle.fed_hub.specs.Faults.{send_fault_of, fault_of_entering, edu_fault_told, edu_fault_of_entering};
+ghost use Rattle.fed_hub.specs.Faults.{send_fault_of, edu_fault_told};
 ghost use Rattle.fed_hub.specs.declared.faults.SendFault.TheVariants as send;
 ghost use Rattle.fed_hub.specs.declared.faults.EduFault.TheVariants as edu;
 ghost use Rattle.fed_hub.specs.declared.faults.FinishFault.TheVariants as finish;
 ghost use Rattle.fed_hub.specs.declared.faults.HubFault.TheVariants as hub;
 
 use fed_event::PduFault;
-use fed_hub_state::EnterFault;
 use fed_json::NoMemory;
 use fed_room_contract::{Refusal, Rule};
 use thiserror::Error;
@@ -59,18 +58,6 @@ impl From<Refusal> for SendFault {
     }
 }
 
-impl From<EnterFault> for SendFault {
-    ghost from_gives = { λ fault told. told ≡ fault_of_entering fault };
-
-    fn from(fault: EnterFault) -> SendFault {
-        match fault {
-            EnterFault::Memory => SendFault::Memory,
-            EnterFault::ShutDown => SendFault::ShutDown,
-            EnterFault::Limit => SendFault::Limit,
-        }
-    }
-}
-
 /// Why an ephemeral data unit is not offered.
 #[derive(Clone, Copy, Debug, PartialEq, Eq, Error)]
 pub enum EduFault {
@@ -110,18 +97,6 @@ impl From<fed_journal::EduFault> for EduFault {
             fed_journal::EduFault::BadEdu => EduFault::BadEdu,
             fed_journal::EduFault::TooLarge => EduFault::TooLarge,
             fed_journal::EduFault::TooDeep => EduFault::TooDeep,
-        }
-    }
-}
-
-impl From<EnterFault> for EduFault {
-    ghost from_gives = { λ fault told. told ≡ edu_fault_of_entering fault };
-
-    fn from(fault: EnterFault) -> EduFault {
-        match fault {
-            EnterFault::Memory => EduFault::Memory,
-            EnterFault::ShutDown => EduFault::ShutDown,
-            EnterFault::Limit => EduFault::Limit,
         }
     }
 }

@@ -13,16 +13,16 @@ use fed_event::Keys;
 use fed_hub_serving::{KeptInbox, ServingNaming};
 use fed_hub_state::{KeptRoom, Naming, SeatedOutbox, SendingJournal};
 use fed_replies::PackedStore;
-use fed_wires::Board;
+use fed_wires::{Board, Credits};
 use std::marker::Model;
-use std::sync::Mutex;
+use std::sync::{Mutex, Wait};
 
 /// What the threads of a server share: its rooms, its journal, the outbox of each other server and its inbox, each under a lock of its own, and
 /// a board on which any thread reads how much was delivered, and waits for nobody. A room's lock is taken before the journal's, and no other
 /// two are taken together.
 ///
-/// Contracts see the listed servers, the place of the own one among them, its name, the ids of the rooms, and for how many clients and readers of
-/// the board it was made.
+/// Contracts see the listed servers, the place of the own one among them, its name, the epoch of its transaction ids, the ids of the rooms, and
+/// for how many clients and readers of the board it was made.
 #[derive(Drop)]
 pub struct Hub<N: Naming + ServingNaming, K: Keys + Drop> {
     pub(crate) list: List,
@@ -31,6 +31,7 @@ pub struct Hub<N: Naming + ServingNaming, K: Keys + Drop> {
     pub(crate) epoch: u64,
     pub(crate) rooms: Rooms,
     pub(crate) journal: Mutex<SendingJournal<N>>,
+    pub(crate) credits: Credits,
     pub(crate) outboxes: Vec<Mutex<SeatedOutbox<N>>>,
     pub(crate) reception: Reception<N>,
     pub(crate) board: Board,
@@ -45,14 +46,24 @@ impl<N: Naming + ServingNaming, K: Keys + Drop> Model for Hub<N, K> {
 
     ghost Value = { HubShape };
 
-    ghost view = { λ h. record { list = h.list; own = h.own; name = K.own_name h.keys; rooms = h.rooms.ids; clients = h.clients; readers = h.readers } };
+    ghost view = { λ h. record { list = h.list; own = h.own; name = K.own_name h.keys; epoch = h.epoch; rooms = h.rooms.ids; clients = h.clients; readers = h.readers } };
 
     ghost invariant = { λ h. (length h.list ≡ length N.wires) × (h.own ≡ N.own) × (h.own < length h.list)
-        × (h.board.id ≡ N.board) × (word_count N.board ≡ length N.wires) × (length h.outboxes.items ≡ length N.wires)
+        × (h.board.id ≡ N.board) × (word_count N.board ≡ length N.wires) × (h.board.readers ≡ h.readers)
+        × (length h.outboxes.items ≡ length N.wires) × (h.credits ≡ length N.wires)
         × ServesBy N.checks (length N.rooms) N.known (K.checks h.keys) h.reception h.rooms };
 }
 
 impl<N: Naming + ServingNaming, K: Keys + Drop> Hub<N, K> {
+    /// Waits until there may be room in the wire to a destination, and lays in the credit that came back. No lock is held while it waits.
+    pub(crate) fn wait_for_room<R: Wait>(&self, rt: &R, dest: ServerIndex)
+        requires { dest < length N.wires }
+    {
+        if let Some(credit) = self.credits.wait(rt, dest.place()) {
+            self.journal.lock(rt).give(credit);
+        }
+    }
+
     /// The room of this id under its lock, for who reads it; `None` where the hub has none. Who holds the lock makes those wait that send in the
     /// room, and the thread that stores what came for it.
     pub fn room(&self, id: &str) -> Option<&Mutex<KeptRoom>>

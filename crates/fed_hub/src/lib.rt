@@ -11,11 +11,13 @@
 //! - `reception`: what receives the requests of other servers
 //! - `tokens`: `Tokens`, and of these `SenderToken` and `Seat`, what threads hold; `client_token`: `ClientToken`, what a client's thread holds
 //! - `offering`: `Sent`; what client threads ask of a hub: `send`, `offer_edu`, `close_outbox`, `shut_down`
+//! - `was_shut`: what shows that the journal was shut down
 //! - `ready`: what is made ready for an event or an EDU before the journal is locked
 //! - `collecting`, `collected`: how parcels go from a wire into an outbox, and `Collected`, what became of a collect
 //! - `sending`: `run_sender`, what the thread that sends to one destination does
 //! - `serving`: `serve_one` and `run_room`, what threads do that serve other servers, and that store what came for a room
-//! - `finishing`: how a hub ends when its threads have returned; `report`: `Report`, what it did; `rest`, `locking`: its locks are opened for that
+//! - `finishing`: how a hub ends when its threads have returned; `report`: `Report`, what it did; `rest`, `unlocked`, `locking`: its locks are
+//!   opened for that; `seats`: how the seats at its board end
 //! - `carrier`, `gate`: `Carrier` and `CarrierFault`, what brings requests to other servers; `Gate`, a clock that may hold a thread back
 //! - `faults`: `SendFault`, `EduFault`, `HubFault`, `FinishFault`
 //! - `sections`: what a thread does while it holds locks
@@ -40,10 +42,13 @@ mod report;
 mod rest;
 mod rooms;
 mod running;
+mod seats;
 mod sending;
 mod serving;
 mod setup;
 mod tokens;
+mod unlocked;
+mod was_shut;
 mod wires;
 
 pub use carrier::{Carrier, CarrierFault, FaultCount};

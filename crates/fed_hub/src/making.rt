@@ -25,7 +25,7 @@ use fed_hub_serving::{ServeToken, ServingNaming};
 use fed_hub_state::{InPlace, KeptRoom, Naming, SeatedOutbox, SendingJournal};
 use fed_journal::Parcel;
 use fed_json::NoMemory;
-use fed_wires::{AnyMessage, ReceiveEnd};
+use fed_wires::{AnyMessage, Credits, ReceiveEnd};
 use std::alloc::Global;
 use std::sync::Mutex;
 
@@ -47,7 +47,7 @@ impl<N: Naming + ServingNaming, K: Keys + Drop> Hub<N, K> {
         ensures own { has_own_fault setup.list setup.own (K.own_name setup.keys) ≡ true → result ≡ Err BadSetup }
         ensures doubled { has_doubled (ids_of setup.rooms.items) ≡ true → IsErr result }
         ensures bad_only { IsErrOf result BadSetup → is_bad_setup setup.list setup.own (K.own_name setup.keys) setup.rooms.items ≡ true }
-        ensures hub { IfOk result (λ r. IsHubOf setup.list N.own setup.own (ids_of setup.rooms.items) N.parts opened.readers r.0) }
+        ensures hub { IfOk result (λ r. IsHubOf setup.list N.own setup.own setup.epoch (ids_of setup.rooms.items) N.parts opened.readers r.0) }
         ensures tokens { IfOk result (λ r. AreTokensOf N.parts N.board opened.readers (length N.wires) N.own (length N.rooms) (length setup.list) r.1.clients.items r.1.readers.items r.1.senders.items r.1.rooms.items r.1.servers.items) }
     {
         if setup.has_own_fault() {
@@ -75,6 +75,7 @@ impl<N: Naming + ServingNaming, K: Keys + Drop> Hub<N, K> {
             epoch,
         } = setup;
         let rooms = rooms_of(alloc, rooms)?;
+        let credits = Credits::new(alloc, &ends)?;
         let (journal, share) = SendingJournal::<N>::new(alloc, ends, events, edus)?;
         let tokens = tokens_of(alloc, own, share, lent, list.len())?;
         let hub = Hub {
@@ -84,6 +85,7 @@ impl<N: Naming + ServingNaming, K: Keys + Drop> Hub<N, K> {
             epoch,
             rooms,
             journal: Mutex::new(journal),
+            credits,
             outboxes: outboxes_of(alloc, owners)?,
             reception,
             board,

@@ -3,21 +3,27 @@ ghost use Rattle.std.specs.Prelude.{◌≡◌, ◌≢◌, ◌<◌, false, length
 ghost use Rattle.fed_dest.specs.ServerSet.{is_among};
 ghost use Rattle.fed_room.specs.Room.{room_of};
 ghost use Rattle.fed_room_contract.specs.Prepared.{signer_of};
+ghost use Rattle.fed_hub_state.specs.CloseFault.{CloseFullIsWithin};
+ghost use Rattle.fed_hub_state.specs.EnterFault.{FullIsWithin};
+ghost use Rattle.fed_hub.specs.Faults.{IsWithin, send_fault_of, told_of_closing, told_of_offering, told_of_sending, unsent_of};
 ghost use Rattle.fed_hub.specs.Offering.{IsSent, IsSentIn, IsEduOffered};
 ghost use Rattle.fed_hub.specs.Ready.{IsReady};
+ghost use Rattle.fed_hub.specs.declared.faults.SendFault.TheVariants.{Memory};
+ghost use Rattle.fed_hub.specs.declared.offering.Unsent.TheVariants.{Refused};
 
 use crate::client_token::ClientToken;
 use crate::faults::{EduFault, SendFault};
 use crate::hub::Hub;
 use crate::ready::{Ready, ReadyEdu};
+use crate::was_shut::shut_down;
 use fed_dest::{ServerIndex, ServerSet, destinations};
 use fed_event::{EventId, Keys};
 use fed_hub_serving::ServingNaming;
-use fed_hub_state::{KeptRoom, Naming, sections};
+use fed_hub_state::{CloseFault as Unclosed, EnterFault, KeptRoom, Naming, sections};
 use fed_hub_told::{Told, ToldEdu, ToldEvent};
 use fed_journal::{JournalFault as CloseFault, edu_fault};
 use fed_json::{Json, NoMemory};
-use fed_room_contract::{Draft, Prepared, RoomEngine};
+use fed_room_contract::{Draft, Prepared, Refusal, RoomEngine};
 use std::alloc::Global;
 use std::sync::Wait;
 
@@ -26,6 +32,43 @@ use std::sync::Wait;
 pub struct Sent {
     pub number: u64,
     pub event_id: EventId,
+}
+
+// Why an event is not sent: it is refused, or the wire to a destination has no room, and it may be tried again with this draft.
+#[derive(Drop)]
+enum Unsent {
+    Refused(SendFault),
+    Full(ServerIndex, Draft),
+}
+
+impl From<NoMemory> for Unsent {
+    ghost from_gives = { λ _ told. told ≡ Refused Memory };
+
+    fn from(_error: NoMemory) -> Unsent {
+        Unsent::Refused(SendFault::Memory)
+    }
+}
+
+impl From<Refusal> for Unsent {
+    ghost from_gives = { λ refusal told. told ≡ Refused (send_fault_of refusal) };
+
+    fn from(refusal: Refusal) -> Unsent {
+        Unsent::Refused(SendFault::from(refusal))
+    }
+}
+
+impl Unsent {
+    // Why an event is not entered that was made of a draft like this one.
+    fn of_entering(fault: EnterFault, draft: Draft) -> Unsent
+        ensures { result ≡ unsent_of fault draft }
+    {
+        match fault {
+            EnterFault::Memory => Unsent::Refused(SendFault::Memory),
+            EnterFault::ShutDown => Unsent::Refused(SendFault::ShutDown),
+            EnterFault::Limit => Unsent::Refused(SendFault::Limit),
+            EnterFault::Full(dest) => Unsent::Full(dest, draft),
+        }
+    }
 }
 
 impl<N: Naming + ServingNaming, K: Keys + Drop> Hub<N, K> {
@@ -57,7 +100,29 @@ impl<N: Naming + ServingNaming, K: Keys + Drop> Hub<N, K> {
         let Some(room) = self.rooms.get(&draft.room) else {
             return Err(SendFault::UnknownRoom);
         };
-        self.send_in(rt, alloc, &self.keys, &mut room.lock(rt), client, draft)
+        let mut draft = draft;
+        for _ in rt.forever() {
+            let told = self.send_in(rt, alloc, &self.keys, &mut room.lock(rt), client, draft);
+            match told {
+                Ok(sent) => return Ok(sent),
+                Err(unsent) => draft = self.wait_to_send(rt, unsent)?,
+            }
+        }
+        unreachable!()
+    }
+
+    // Waits for room where a wire is full, and gives the draft back; or tells why it is refused.
+    fn wait_to_send<R: Wait>(&self, rt: &R, unsent: Unsent) -> Result<Draft, SendFault>
+        requires { IsWithin (length N.wires) unsent }
+        ensures { result ≡ told_of_sending unsent }
+    {
+        match unsent {
+            Unsent::Refused(fault) => Err(fault),
+            Unsent::Full(dest, draft) => {
+                self.wait_for_room(rt, dest);
+                Ok(draft)
+            }
+        }
     }
 
     // Sends an event in a room whose lock is held.
@@ -69,9 +134,9 @@ impl<N: Naming + ServingNaming, K: Keys + Drop> Hub<N, K> {
         room: &mut KeptRoom,
         client: &mut ClientToken<N>,
         draft: Draft,
-    ) -> Result<Sent, SendFault>
+    ) -> Result<Sent, Unsent>
         requires name { K.own_name keys.now ≡ self.now.name }
-        ensures { IsSentIn (signer_of (K.own_name keys.now) (K.own_key keys.now) (K.own_signature keys.now) (K.checks keys.now)) draft room.old client.old result room.new client.new }
+        ensures { IsSentIn (signer_of (K.own_name keys.now) (K.own_key keys.now) (K.own_signature keys.now) (K.checks keys.now)) (length N.wires) draft room.old client.old result room.new client.new }
     {
         let copy = draft.copy(alloc);
         let prepared = room.prepare(alloc, draft, keys)?;
@@ -81,19 +146,24 @@ impl<N: Naming + ServingNaming, K: Keys + Drop> Hub<N, K> {
             event_id,
             same_id,
         } = self.ready(alloc, room, &mut client.told, prepared, copy)?;
-        let number = sections::offer(
+        let offered = sections::offer(
             rt,
             room,
             &mut self.journal.lock(rt),
             &mut client.share,
             outgoing,
-        )?;
-        client.told.note_event(ToldEvent {
-            draft,
-            number,
-            event_id: same_id,
-        });
-        Ok(Sent { number, event_id })
+        );
+        match offered {
+            Ok(number) => {
+                client.told.note_event(ToldEvent {
+                    draft,
+                    number,
+                    event_id: same_id,
+                });
+                Ok(Sent { number, event_id })
+            }
+            Err(fault) => Err(Unsent::of_entering(fault, draft)),
+        }
     }
 
     // Makes ready what a room has prepared of a draft, with its destinations, and room for what the client will be told.
@@ -144,25 +214,45 @@ impl<N: Naming + ServingNaming, K: Keys + Drop> Hub<N, K> {
             return Err(EduFault::from(fault));
         }
         client.told.reserve_edu()?;
-        let ReadyEdu {
-            loads,
-            same_edu,
-            same_dests,
-        } = ReadyEdu::new(alloc, &edu, &dests)?;
-        let number = sections::offer_edu(
-            rt,
-            &mut self.journal.lock(rt),
-            &mut client.share,
-            edu,
-            dests,
-            loads,
-        )?;
-        client.told.note_edu(ToldEdu {
-            edu: same_edu,
-            dests: same_dests,
-            number,
-        });
-        Ok(number)
+        for _ in rt.forever() {
+            let ReadyEdu {
+                loads,
+                same_edu,
+                same_dests,
+            } = ReadyEdu::new(alloc, &edu, &dests)?;
+            let offered = sections::offer_edu(
+                rt,
+                &mut self.journal.lock(rt),
+                &mut client.share,
+                same_edu,
+                same_dests,
+                loads,
+            );
+            match offered {
+                Ok(number) => {
+                    client.told.note_edu(ToldEdu { edu, dests, number });
+                    return Ok(number);
+                }
+                Err(fault) => self.wait_to_offer(rt, fault)?,
+            }
+        }
+        unreachable!()
+    }
+
+    // Waits for room where a wire is full, or tells another fault.
+    fn wait_to_offer<R: Wait>(&self, rt: &R, fault: EnterFault) -> Result<(), EduFault>
+        requires { FullIsWithin (length N.wires) fault }
+        ensures { result ≡ told_of_offering fault }
+    {
+        match fault {
+            EnterFault::Full(dest) => {
+                self.wait_for_room(rt, dest);
+                Ok(())
+            }
+            EnterFault::Memory => Err(EduFault::Memory),
+            EnterFault::ShutDown => Err(EduFault::ShutDown),
+            EnterFault::Limit => Err(EduFault::Limit),
+        }
     }
 
     /// Closes the outbox of another listed server, and says whether it was open. What was offered before is sent still; the end of it goes
@@ -175,7 +265,29 @@ impl<N: Naming + ServingNaming, K: Keys + Drop> Hub<N, K> {
         requires within { dest < length N.wires }
         requires other { dest ≢ N.own }
     {
-        sections::close(rt, &mut self.journal.lock(rt), dest)
+        for _ in rt.forever() {
+            let closed = sections::close(rt, &mut self.journal.lock(rt), dest);
+            match closed {
+                Ok(was_open) => return Ok(was_open),
+                Err(fault) => self.wait_to_close(rt, fault)?,
+            }
+        }
+        unreachable!()
+    }
+
+    // Waits for room where a wire is full, or tells another fault.
+    fn wait_to_close<R: Wait>(&self, rt: &R, fault: Unclosed) -> Result<(), CloseFault>
+        requires { CloseFullIsWithin (length N.wires) fault }
+        ensures { result ≡ told_of_closing fault }
+    {
+        match fault {
+            Unclosed::Full(dest) => {
+                self.wait_for_room(rt, dest);
+                Ok(())
+            }
+            Unclosed::Memory => Err(CloseFault::Memory),
+            Unclosed::Limit => Err(CloseFault::Limit),
+        }
     }
 
     /// Closes the outboxes of all other servers that are open, and ends the wires of all rooms. What is sent or offered from then on is refused,
@@ -185,8 +297,16 @@ impl<N: Naming + ServingNaming, K: Keys + Drop> Hub<N, K> {
     ///
     /// `Limit`, where the journal has no place for the closings, and `Memory`; all is then as it was.
     pub fn shut_down<R: Wait>(&self, rt: &R) -> Result<(), CloseFault> {
-        sections::shut_down(rt, &mut self.journal.lock(rt), self.own)?;
-        self.reception.end_rooms(rt);
-        Ok(())
+        for _ in rt.forever() {
+            let shut = shut_down(rt, &mut self.journal.lock(rt), self.own);
+            match shut {
+                Ok(shut) => {
+                    self.reception.end_rooms(rt, shut);
+                    return Ok(());
+                }
+                Err(fault) => self.wait_to_close(rt, fault)?,
+            }
+        }
+        unreachable!()
     }
 }

@@ -4,16 +4,17 @@ ghost use Rattle.fed_hub_serving.specs.Served.{IsServed};
 ghost use Rattle.fed_hub_serving.specs.Wires.{AreUnused, names_of};
 ghost use Rattle.fed_hub.specs.Setup.{IsReceptionOf, ids_of};
 
+use crate::was_shut::WasShut;
 use fed_dest::{List, ServerName};
 use fed_event::{Checked, Keys};
 use fed_hub_serving::{
-    KeptInbox, LockedInbox, ServeToken, Served, ServingDesk, ServingNaming, serve_one,
+    KeptInbox, LockedInbox, ServeToken, Served, ServingDesk, ServingNaming, SharedInbox, serve_one,
 };
 use fed_hub_state::KeptRoom;
 use fed_inbox::{Inbox, Receiver};
 use fed_json::NoMemory;
 use fed_replies::PackedStore;
-use fed_wires::{AnyMessage, SendEnd};
+use fed_wires::{AnyMessage, Credits, SendEnd};
 use std::alloc::Global;
 use std::io::{Read, Write};
 use std::marker::{Model, PhantomData};
@@ -27,7 +28,7 @@ use std::sync::{Mutex, Wait};
 pub(crate) struct Reception<N: ServingNaming> {
     known: Vec<String>,
     receiver: Receiver,
-    inbox: Mutex<KeptInbox<N, PackedStore>>,
+    inbox: SharedInbox<N, PackedStore>,
 }
 
 impl<N: ServingNaming> Model for Reception<N> {
@@ -72,11 +73,16 @@ impl<N: ServingNaming> Reception<N> {
             ids_of(alloc, rooms)?,
             PackedStore::new(alloc),
         )?;
+        let credits = Credits::new(alloc, &ends)?;
         let inbox = KeptInbox::new(alloc, inbox, ends)?;
+        let inbox = SharedInbox {
+            inbox: Mutex::new(inbox),
+            credits,
+        };
         Ok(Reception {
             known,
             receiver,
-            inbox: Mutex::new(inbox),
+            inbox,
         })
     }
 
@@ -98,18 +104,20 @@ impl<N: ServingNaming> Reception<N> {
             known: &self.known,
             keys,
         };
-        let mut inbox = LockedInbox { inbox: &self.inbox };
+        let mut inbox = LockedInbox {
+            shared: &self.inbox,
+        };
         serve_one(rt, alloc, &desk, &mut inbox, token, reader, writer)
     }
 
     /// The inbox under its lock.
     pub(crate) fn inbox(&self) -> &Mutex<KeptInbox<N, PackedStore>> {
-        &self.inbox
+        &self.inbox.inbox
     }
 
-    /// Ends the wires of all rooms that have not ended.
-    pub(crate) fn end_rooms<R: Wait>(&self, rt: &R) {
-        self.inbox.lock(rt).end_rooms();
+    /// Ends the wires of all rooms that have not ended. That is for the hub that was shut down.
+    pub(crate) fn end_rooms<R: Wait>(&self, rt: &R, _shut: WasShut<N>) {
+        self.inbox.inbox.lock(rt).end_rooms();
     }
 }
 
@@ -118,11 +126,12 @@ impl<N: ServingNaming> Reception<N> {
 pub(crate) struct Desk<N: ServingNaming> {
     known: Vec<String>,
     receiver: Receiver,
+    credits: Credits,
     of: PhantomData<N>,
 }
 
 impl<N: ServingNaming> Model for Desk<N> {
-    ghost use Rattle.std.specs.Prelude.{◌≡◌, ℕ, List, map, string_bytes};
+    ghost use Rattle.std.specs.Prelude.{◌≡◌, ℕ, List, length, map, string_bytes};
     ghost use Rattle.std.specs.Coded.{coded_ℕ, coded_list};
 
     ghost Value = { List (List ℕ) };
@@ -131,7 +140,7 @@ impl<N: ServingNaming> Model for Desk<N> {
 
     ghost view = { λ r. map string_bytes r.known.items };
 
-    ghost invariant = { λ r. (map string_bytes r.known.items ≡ N.known) × (r.receiver ≡ N.receiver) };
+    ghost invariant = { λ r. (map string_bytes r.known.items ≡ N.known) × (r.receiver ≡ N.receiver) × (r.credits ≡ length N.rooms) };
 }
 
 impl<N: ServingNaming> Reception<N> {
@@ -142,11 +151,12 @@ impl<N: ServingNaming> Reception<N> {
         let Reception {
             known,
             receiver,
-            inbox,
+            inbox: SharedInbox { inbox, credits },
         } = self;
         let desk = Desk {
             known,
             receiver,
+            credits,
             of: PhantomData,
         };
         (desk, inbox.into_inner())
@@ -168,12 +178,16 @@ impl<N: ServingNaming> Desk<N> {
         let Desk {
             known,
             receiver,
+            credits,
             of: _,
         } = self;
         Reception {
             known,
             receiver,
-            inbox: Mutex::new(inbox),
+            inbox: SharedInbox {
+                inbox: Mutex::new(inbox),
+                credits,
+            },
         }
     }
 }

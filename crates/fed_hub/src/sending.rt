@@ -1,9 +1,10 @@
 // What the thread that sends to one destination does, turn after turn.
-ghost use Rattle.std.specs.Prelude.{◌≡◌, ◌≤◌, ◌<◌, length, IfOk};
+ghost use Rattle.std.specs.Prelude.{◌≡◌, ◌≤◌, ◌<◌, true, length, IfOk, MatchResult};
 ghost use Rattle.fed_outbox.specs.Outbox.{cut};
 ghost use Rattle.fed_exchange.specs.Messages.{asked_of, bytes_sent};
+ghost use Rattle.fed_hub_rooms.specs.declared.ran.Ran.TheVariants.{Drained};
 ghost use Rattle.fed_hub.specs.Held.{GoesOn};
-ghost use Rattle.fed_hub.specs.Sending.{IsNext};
+ghost use Rattle.fed_hub.specs.Sending.{HasCome, IsAsked, IsNext, IsNextAt, IsTurnOf, LastsSo, came_of, entered, turn_of};
 
 use crate::carrier::{Carrier, CarrierFault};
 use crate::collected::Collected;
@@ -17,7 +18,7 @@ use fed_hub_rooms::Ran;
 use fed_hub_serving::ServingNaming;
 use fed_hub_state::{Naming, SeatedOutbox, sections};
 use fed_json::NoMemory;
-use fed_outbox::MAX_PDUS;
+use fed_wires::{Board, CAPACITY};
 use std::alloc::Global;
 use std::sync::Wait;
 
@@ -47,15 +48,24 @@ enum Next {
     Act,
 }
 
+// What came of an exchange.
+enum Came {
+    /// A reply of this status, or one that can't be read.
+    Reply(Option<u16>),
+    /// No reply.
+    Nothing,
+}
+
 impl<N: Naming + ServingNaming, K: Keys + Drop> Hub<N, K> {
     /// Delivers to the token's destination, in at most so many turns: moves what comes over its wire into its outbox, makes transactions of it,
     /// has each brought by the carrier until it is answered with 200, and settles it (Server-Server API, "Transactions"). A turn is one
-    /// collect, one exchange or one pause. A carrier that fails, and a reply that can't be read, count as a failure, after which the
-    /// transaction is due again later. No lock is held while the carrier or the gate is at work.
+    /// collect, one exchange or one pause. Before each exchange and each pause the wire is emptied: all that lay in it when the collects began
+    /// is in the outbox then. A carrier that fails, and a reply that can't be read, count as a failure, after which the transaction is due
+    /// again later. No lock is held while the carrier or the gate is at work.
     ///
     /// What it tells:
     ///
-    /// - `Drained` where the outbox was closed, and all that it accepted is settled
+    /// - `Drained` where the end came over the wire, and all that the outbox accepted before it is settled
     /// - `TurnsSpent` where all turns were made
     /// - `Memory` where memory ran out. A parcel in hand stays in the token, and the call may be made again
     pub fn run_sender<R: Wait, C: Carrier, G: Gate>(
@@ -68,12 +78,13 @@ impl<N: Naming + ServingNaming, K: Keys + Drop> Hub<N, K> {
         turns: u64,
     ) -> Ran
         ensures goes_on { GoesOn token.old token.new }
+        ensures drained { result ≡ Drained → token.new.ended ≡ true }
         ensures faults { C.faults carrier.old ≤ C.faults carrier.new }
     {
-        let mut next = Next::Collect(MAX_PDUS);
+        let mut next = Next::Collect(CAPACITY);
         for _ in 0..turns {
             let turn = match next {
-                Next::Collect(most) => self.collect_turn(rt, token, most),
+                Next::Collect(most) => self.collect_turn(rt, token, false, most),
                 Next::Act => self.act(rt, alloc, token, carrier, gate),
             };
             match turn {
@@ -84,15 +95,19 @@ impl<N: Naming + ServingNaming, K: Keys + Drop> Hub<N, K> {
         Ran::TurnsSpent
     }
 
-    // One collect that does not wait.
-    fn collect_turn<R: Wait>(&self, rt: &R, token: &mut SenderToken<N>, most: usize) -> Turn
-        ensures { GoesOn token.old token.new }
+    // One collect, with or without waiting, of so many at most before it acts.
+    fn collect_turn<R: Wait>(
+        &self,
+        rt: &R,
+        token: &mut SenderToken<N>,
+        wait: bool,
+        most: usize,
+    ) -> Turn
+        ensures collected { IsTurnOf most token.old result token.new }
+        ensures goes_on { GoesOn token.old token.new }
+        ensures drained { LastsSo result token.new }
     {
-        match self.collect(rt, token, false) {
-            Collected::Moved if most > 1 => Turn::Made(Next::Collect(most - 1)),
-            Collected::Moved | Collected::Nothing | Collected::Closed => Turn::Made(Next::Act),
-            Collected::Memory => Turn::Last(Ran::Memory),
-        }
+        turn_of(self.collect(rt, token, wait), most)
     }
 
     // One exchange, one pause, or, where there is nothing to do, one collect that waits.
@@ -105,6 +120,7 @@ impl<N: Naming + ServingNaming, K: Keys + Drop> Hub<N, K> {
         gate: &mut G,
     ) -> Turn
         ensures goes_on { GoesOn token.old token.new }
+        ensures drained { LastsSo result token.new }
         ensures faults { C.faults carrier.old ≤ C.faults carrier.new }
     {
         let now = gate.now();
@@ -112,23 +128,19 @@ impl<N: Naming + ServingNaming, K: Keys + Drop> Hub<N, K> {
             return Turn::Last(Ran::Memory);
         };
         match act {
-            Act::Drain => Turn::Last(Ran::Drained),
+            Act::Drain if token.ended => Turn::Last(Ran::Drained),
             Act::Exchange(number, request) => {
                 let told = self.exchange(rt, alloc, token.dest, carrier, gate, number, &request);
                 match told {
-                    Ok(()) => Turn::Made(Next::Collect(MAX_PDUS)),
+                    Ok(()) => Turn::Made(Next::Collect(CAPACITY)),
                     Err(NoMemory) => Turn::Last(Ran::Memory),
                 }
             }
             Act::Pause(until) => {
                 gate.pause(until);
-                Turn::Made(Next::Collect(MAX_PDUS))
+                Turn::Made(Next::Collect(CAPACITY))
             }
-            Act::Idle => match self.collect(rt, token, true) {
-                Collected::Moved => Turn::Made(Next::Collect(MAX_PDUS)),
-                Collected::Nothing | Collected::Closed => Turn::Made(Next::Act),
-                Collected::Memory => Turn::Last(Ran::Memory),
-            },
+            Act::Drain | Act::Idle => self.collect_turn(rt, token, true, CAPACITY),
         }
     }
 
@@ -142,6 +154,7 @@ impl<N: Naming + ServingNaming, K: Keys + Drop> Hub<N, K> {
     ) -> Result<Act, NoMemory>
         requires dest { dest < length N.wires }
         requires now { now ≤ 9007199254740991 }
+        ensures { IfOk result (λ act. IsNextAt self.now dest now act) }
     {
         let outbox = &self.outboxes[dest.place()];
         let name = self.list.name(dest);
@@ -167,23 +180,52 @@ impl<N: Naming + ServingNaming, K: Keys + Drop> Hub<N, K> {
         request: &[u8],
     ) -> Result<(), NoMemory>
         requires dest { dest < length N.wires }
+        requires asked { IsAsked self.now dest number request.now }
         ensures faults { C.faults carrier.old ≤ C.faults carrier.new }
     {
         gate.before(dest, number);
+        let came = what_came(alloc, carrier.exchange(alloc, dest, request))?;
+        let now = gate.now();
         let outbox = &self.outboxes[dest.place()];
-        match carrier.exchange(alloc, dest, request) {
-            Ok(reply) => {
-                let status = status_in(alloc, &reply)?;
-                let now = gate.now();
-                sections::settle(&mut outbox.lock(rt), &self.board, number, status, now);
-                Ok(())
-            }
-            Err(CarrierFault::Failed) => {
-                let now = gate.now();
-                sections::failed(&mut outbox.lock(rt), now);
-                Ok(())
-            }
-            Err(CarrierFault::Memory) => Err(NoMemory),
+        enter(&mut outbox.lock(rt), &self.board, number, came, now);
+        Ok(())
+    }
+}
+
+// What is to be done behind a collect, where at most so many are moved before it acts.
+fn turn_of(told: Collected, most: usize) -> Turn
+    ensures { result ≡ turn_of told most }
+{
+    match told {
+        Collected::Moved if most > 1 => Turn::Made(Next::Collect(most - 1)),
+        Collected::Moved | Collected::Nothing | Collected::Closed => Turn::Made(Next::Act),
+        Collected::Memory => Turn::Last(Ran::Memory),
+    }
+}
+
+// What came of an exchange, by what the carrier told.
+fn what_came(alloc: Global, told: Result<Vec<u8>, CarrierFault>) -> Result<Came, NoMemory>
+    ensures { MatchResult told (λ reply. IfOk result (HasCome reply.items)) (λ fault. result ≡ came_of fault) }
+{
+    match told {
+        Ok(reply) => Ok(Came::Reply(status_in(alloc, &reply)?)),
+        Err(CarrierFault::Failed) => Ok(Came::Nothing),
+        Err(CarrierFault::Memory) => Err(NoMemory),
+    }
+}
+
+// Enters what came of the exchange of this transaction.
+fn enter<N: Naming>(outbox: &mut SeatedOutbox<N>, board: &Board, number: u64, came: Came, now: u64)
+    requires board { board.now.id ≡ N.board }
+    requires now { now ≤ 9007199254740991 }
+    ensures { outbox.new ≡ entered outbox.old number came now }
+{
+    match came {
+        Came::Reply(status) => {
+            sections::settle(outbox, board, number, status, now);
+        }
+        Came::Nothing => {
+            sections::failed(outbox, now);
         }
     }
 }

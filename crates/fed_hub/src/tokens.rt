@@ -3,6 +3,7 @@ ghost use Rattle.std.specs.Prelude.{◌≡◌, ◌≢◌, None, Some, slice_get,
 ghost use Rattle.fed_hub.specs.declared.collected.Collected.TheVariants.{Nothing};
 ghost use Rattle.fed_wires.specs.ReceiveEnd.{new_receiver};
 ghost use Rattle.fed_hub.specs.Held.{held_new};
+ghost use Rattle.fed_hub.specs.Seats.{IsReaderAt};
 ghost use Rattle.fed_hub.specs.Collecting.{with_hand, TakesOut};
 
 use crate::client_token::ClientToken;
@@ -37,19 +38,19 @@ pub struct Seat<N: Naming> {
 }
 
 impl<N: Naming> Model for Seat<N> {
-    ghost use Rattle.std.specs.Prelude.{◌≡◌};
     ghost use Rattle.fed_wires.specs.Seat.{Seated};
+    ghost use Rattle.fed_hub.specs.Seats.{IsReaderAt};
 
     ghost Value = { Seated };
 
     ghost view = { λ s. s.seat };
 
-    ghost invariant = { λ s. s.seat.board ≡ N.board };
+    ghost invariant = { λ s. IsReaderAt N.board s.seat };
 }
 
 impl<N: Naming> Seat<N> {
     pub(crate) fn new(seat: fed_wires::Seat) -> Seat<N>
-        requires { seat.board ≡ N.board }
+        requires { IsReaderAt N.board seat }
         ensures { result ≡ seat }
     {
         Seat {

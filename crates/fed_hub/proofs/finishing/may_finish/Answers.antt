@@ -3,10 +3,7 @@ use Rattle.fed_hub.specs.Finishing.{first_fault}
 use Rattle.fed_hub.proofs.finishing.may_finish.Goals as goal
 
 pub returns-then-not-is_shut : goal.returns-then-not-is_shut
-returns-then-not-is_shut g c = ap (λ shut. first_fault shut c.args.has_all) (sym c.if-not-is_shut.true ∙ c.is_shut.ensures)
-
-pub returns-then-not-has_all : goal.returns-then-not-has_all
-returns-then-not-has_all g c = λ i. first_fault ((sym c.if-not-is_shut.false ∙ c.is_shut.ensures) i) (sym c.if-not-has_all.true i)
+returns-then-not-is_shut g c = ap (λ shut. first_fault shut c.args.counted) (sym c.if-not-is_shut.true ∙ c.is_shut.ensures)
 
 pub returns : goal.returns
-returns g c = λ i. first_fault ((sym c.if-not-is_shut.false ∙ c.is_shut.ensures) i) (sym c.if-not-has_all.false i)
+returns g c = ap (λ shut. first_fault shut c.args.counted) (sym c.if-not-is_shut.false ∙ c.is_shut.ensures)

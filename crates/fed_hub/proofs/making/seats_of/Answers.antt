@@ -9,7 +9,8 @@ new-requires g c =
     let board = g.N.Naming.board in
     let place = length c.loop-reader.seats.items in
     let left = subst (AreLeft board (λ _. owned 0 0 0) place) c.in-Some.ensures.steps.0 c.loop-reader.invariant.left in
-    ap (λ (s : Seated). s.board) (first_left board (λ _. owned 0 0 0) place c.in-Some.reader c.next.new.self.rest.items left)
+    let new = first_left board (λ _. owned 0 0 0) place c.in-Some.reader c.next.new.self.rest.items left in
+    (ap (λ (s : Seated). s.board) new, ap (λ (s : Seated). s.owned) new)
 
 pub loop-reader-preserved : goal.loop-reader-preserved
 loop-reader-preserved g c =

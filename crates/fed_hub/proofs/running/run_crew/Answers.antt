@@ -1,7 +1,6 @@
 use Rattle.std.proofs.Common.{rules, arith}
 use Rattle.std.proofs.lemmas.Grind.{common_steps}
-use Rattle.fed_dest.specs.List.{place_of}
-use Rattle.fed_hub.proofs.Named.{named, place_or_first, is_place}
+use Rattle.fed_hub.proofs.Named.{named, is_place}
 use Rattle.fed_hub.proofs.running.run_crew.Goals as goal
 
 pub run_named_crew-requires-clause-named : goal.run_named_crew-requires-clause-named

@@ -1,4 +1,4 @@
-use Rattle.std.proofs.Common.{rules, arith, ◌≡◌, ◌<◌, ℕ, List, Some, length, sym, ap, ◌∙◌, subst}
+use Rattle.std.proofs.Common.{rules, arith, ◌≡◌, ◌<◌, ℕ, List, Some, length, refl, sym, ap, ◌∙◌, subst}
 use Rattle.std.specs.List.{slice_get}
 use Rattle.std.proofs.lemmas.List.{length-map}
 use Rattle.std.specs.Option.{IfSome}
@@ -6,8 +6,10 @@ use Rattle.std.proofs.lemmas.Grind.{common_steps}
 use Rattle.fed_dest.specs.List.{place_of}
 use Rattle.fed_hub_state.specs.ClientToken.{ClientShare}
 use Rattle.fed_hub_state.specs.KeptRoom.{id_of}
+use Rattle.fed_journal.specs.declared.parcel.Parcel.{Parcel}
 use Rattle.fed_wires.specs.Board.{BoardId, word_count}
 use Rattle.fed_wires.specs.Seat.{AreOwners, AreReaders}
+use Rattle.fed_wires.specs.SendEnd.{Sender}
 use Rattle.fed_hub.specs.Names.{Names}
 use Rattle.fed_hub.specs.Rooms.{RoomsShape}
 use Rattle.fed_hub.specs.Setup.{has_room, ids_of}
@@ -34,23 +36,23 @@ new-requires-clause-unused g c = λ k e at.
 
 -- ---- the journal
 
-pub new-requires-2-clause-wires : goal.new-requires-2-clause-wires
-new-requires-2-clause-wires g c = ap (λ (n : Names). n.wires) c.opened.view_is ∙ c.requires.same_wires
+pub new-requires-3-clause-wires : goal.new-requires-3-clause-wires
+new-requires-3-clause-wires g c = ap (λ (n : Names). n.wires) c.opened.view_is ∙ c.requires.same_wires
 
-pub new-requires-2-clause-unused : goal.new-requires-2-clause-unused
-new-requires-2-clause-unused g c = λ d e at. (unused (wires_of c.opened.inside.ends.items) d e (sym (ap (λ ends. slice_get ends d) c.opened.invariant.ends) ∙ at)).sent
+pub new-requires-3-clause-unused : goal.new-requires-3-clause-unused
+new-requires-3-clause-unused g c = λ d e at. (unused (wires_of c.opened.inside.ends.items) d e (sym (ap (λ ends. slice_get ends d) c.opened.invariant.ends) ∙ at)).sent
 
-pub new-requires-2-clause-few : goal.new-requires-2-clause-few
-new-requires-2-clause-few g c = omega (arith, c.requires.for_each_server, c.has_own_fault.ensures.few)
+pub new-requires-3-clause-few : goal.new-requires-3-clause-few
+new-requires-3-clause-few g c = omega (arith, c.requires.for_each_server, c.has_own_fault.ensures.few)
 
-pub new-requires-2-clause-events : goal.new-requires-2-clause-events
-new-requires-2-clause-events g c = (
+pub new-requires-3-clause-events : goal.new-requires-3-clause-events
+new-requires-3-clause-events g c = (
   ap (λ (n : Names). n.events) c.opened.view_is ∙ c.requires.same_events,
   c.opened.invariant.parts ∙ ap (λ (n : Names). n.parts) c.opened.view_is ∙ c.requires.same_parts,
 )
 
-pub new-requires-2-clause-edus : goal.new-requires-2-clause-edus
-new-requires-2-clause-edus g c = (
+pub new-requires-3-clause-edus : goal.new-requires-3-clause-edus
+new-requires-3-clause-edus g c = (
   ap (λ (n : Names). n.edus) c.opened.view_is ∙ c.requires.same_edus,
   c.opened.invariant.edu_parts ∙ ap (λ (n : Names). n.parts) c.opened.view_is ∙ c.requires.same_parts,
 )
@@ -91,6 +93,7 @@ returns-clause-hub g c =
       same_list = c.list.view_is;
       own_place = sym (subst (λ o. IfSome o (λ n. g.N.Naming.own ≡ n)) at c.requires.own_place);
       own_name = signs_as_own c.args.setup.list c.args.setup.own (g.K.Keys.own_name c.args.setup.keys) (sym c.if-has_own_fault.ensures.told);
+      same_epoch = refl;
       each_client = c.clients-clients.ensures ∙ c.requires.same_parts;
       each_reader = c.readers-readers.ensures;
       each_room = λ id. ap (λ (rooms : RoomsShape). has_room rooms.ids id) c.rooms.view_is ∙ c.in_ok-rooms.ensures.rooms id;
@@ -116,7 +119,9 @@ invariant_of-hub-3 g c =
       subst (λ (names : List (List ℕ)). place < length names) (sym c.list.view_is) c.in-Some.ensures.within,
       board,
       ap word_count (sym board) ∙ c.opened.invariant.words ∙ ap length wires,
+      c.opened.invariant.all_readers ∙ ap (λ (n : Names). n.readers) c.opened.view_is ∙ sym c.readers-readers.ensures,
       first_of (search rules, grind (arith, common_steps)),
+      c.credits.view_is ∙ c.in_ok-credits.ensures ∙ ap length c.deref-2.ensures.value ∙ sym (length-map c.opened.inside.ends.items (λ (end : Sender Parcel). end.wire)) ∙ ap length wires,
       record {
         same_checks = sym c.requires.same_checks;
         same_ids = c.in_ok-reception.ensures;

@@ -1,6 +1,6 @@
 use Rattle.std.proofs.Common.{◌≡◌, take, vec_capacity}
 use Rattle.fed_hub.specs.Report.{settled_counts}
-use Rattle.fed_hub.proofs.report.look.Given as goal
+use Rattle.fed_hub.proofs.seats.look.Given as goal
 
 -- as far as the loop has come; nothing else changes
 abbrev pub invariant-loop-place : goal.invariant-loop-place

@@ -2,8 +2,8 @@ use Rattle.std.proofs.Common.{map, sym, ap, ◌∙◌}
 use Rattle.std.proofs.lemmas.Bool.{false≢true}
 use Rattle.std.proofs.lemmas.List.{map-id}
 use Rattle.fed_hub_state.specs.KeptRoom.{id_of}
-use Rattle.fed_hub.proofs.Ending.{of_journal_by, given_by, told_by, sent_by, answered_by, told_so}
-use Rattle.fed_hub.proofs.report.Report.fits.Goals as goal
+use Rattle.fed_hub.proofs.Ending.{of_journal_by, given_by, told_by, sent_by, brought_by, answered_by, told_so}
+use Rattle.fed_hub.proofs.unlocked.Unlocked.fits.Goals as goal
 
 pub returns-then-not-are_of_journal : goal.returns-then-not-are_of_journal
 returns-then-not-are_of_journal g c = (
@@ -29,6 +29,12 @@ returns-then-not-branch-2 g c = (
   λ fits. absurd (false≢true (sym c.if-not-branch-2.true ∙ c.in_ok-are_sent_as_stored.ensures.1 (sent_by _ _ (sym c.as_slice-rooms.ensures.value) (sym c.entries-entries.ensures) fits.sent))),
 )
 
+pub returns-then-not-branch-3 : goal.returns-then-not-branch-3
+returns-then-not-branch-3 g c = (
+  λ no. absurd (false≢true no),
+  λ fits. absurd (false≢true (sym c.if-not-branch-3.true ∙ c.in_ok-are_brought.ensures.1 (brought_by _ (sym c.as_slice-rooms.ensures.value) (sym c.points-points.ensures.points) fits.brought))),
+)
+
 pub returns : goal.returns
 returns g c =
     let rooms = c.as_slice-rooms.ensures.value in
@@ -39,5 +45,6 @@ returns g c =
       given = given_by rooms c.deref-2.ensures.value (c.are_given.ensures.0 c.if-not-are_given.false);
       told = told_by (map-id _ ∙ c.deref-3.ensures.value) entries (c.in_ok-is_as_told.ensures.0 c.if-not-branch.false);
       sent = sent_by _ _ rooms entries (c.in_ok-are_sent_as_stored.ensures.0 c.if-not-branch-2.false);
-      answered = answered_by c.points.ensures.points c.deref-4.ensures.value answered;
-    }) (λ fits. answered_by (sym c.points.ensures.points) (sym c.deref-4.ensures.value) fits.answered) c.are_answered.ensures
+      brought = brought_by _ rooms c.points-points.ensures.points (c.in_ok-are_brought.ensures.0 c.if-not-branch-3.false);
+      answered = answered_by c.points-points.ensures.points c.deref-4.ensures.value answered;
+    }) (λ fits. answered_by (sym c.points-points.ensures.points) (sym c.deref-4.ensures.value) fits.answered) c.are_answered.ensures
