@@ -6,10 +6,12 @@ ghost use Rattle.fed_journal.specs.Edu.{edu_fault_of};
 ghost use Rattle.fed_journal.specs.declared.parcel.Load.TheVariants.{Edu};
 
 use fed_dest::{ServerIndex, ServerSet};
-use fed_hub_state::{ClientToken, InPlace, Naming, SendingJournal, Unplaced, sections};
+use fed_hub_state::{
+    ClientToken, CloseFault, EnterFault, InPlace, Naming, SendingJournal, Unplaced, sections,
+};
 use fed_journal::{Load, Parcel, edu_fault};
 use fed_json::{Json, read};
-use fed_wires::{ReceiveEnd, Received, SendEnd, wire};
+use fed_wires::{CAPACITY, Credits, ReceiveEnd, Received, SendEnd, wire};
 use std::alloc::Global;
 use std::marker::Brand;
 use std::process::Abort;
@@ -36,13 +38,13 @@ fn unplaced(edu: &Json, dest: ServerIndex) -> Option<Unplaced>
     Some(Unplaced { dest, load })
 }
 
-// Offers one to the servers at places 1 and 2, and tells its number.
+// Offers one to the servers at places 1 and 2, and tells its number, or why it is not entered; or nothing, where memory runs out before.
 fn offer<N: Naming, R: Wait>(
     rt: &R,
     alloc: Global,
     journal: &Mutex<SendingJournal<N>>,
     client: &mut ClientToken<N>,
-) -> Option<u64>
+) -> Option<Result<u64, EnterFault>>
     requires client { 0 < client.old.parts }
     requires servers { length N.wires ≡ 3 }
     ensures { client.new.parts ≡ client.old.parts }
@@ -55,7 +57,7 @@ fn offer<N: Naming, R: Wait>(
     loads.push(unplaced(&edu, first)?).ok()?;
     loads.push(unplaced(&edu, second)?).ok()?;
     let mut journal = journal.lock(rt);
-    sections::offer_edu(rt, &mut journal, client, edu, dests, loads).ok()
+    Some(sections::offer_edu(rt, &mut journal, client, edu, dests, loads))
 }
 
 // Two clients offer in turn, and between two of their offers the outbox for the server at place 1 is closed.
@@ -75,11 +77,11 @@ fn run<N: Naming, R: Wait + Abort>(
     let mut two = one.split();
     let shared = &Mutex::new(journal);
     let first = ServerIndex::new(1);
-    assert_eq!(rt; offer(rt, alloc, shared, &mut one), Some(1));
-    assert_eq!(rt; offer(rt, alloc, shared, &mut two), Some(2));
+    assert_eq!(rt; offer(rt, alloc, shared, &mut one), Some(Ok(1)));
+    assert_eq!(rt; offer(rt, alloc, shared, &mut two), Some(Ok(2)));
     assert_eq!(rt; sections::close(rt, &mut shared.lock(rt), first), Ok(true));
     assert_eq!(rt; sections::close(rt, &mut shared.lock(rt), first), Ok(false));
-    assert_eq!(rt; offer(rt, alloc, shared, &mut one), Some(3));
+    assert_eq!(rt; offer(rt, alloc, shared, &mut one), Some(Ok(3)));
     one.merge(two);
     let mut journal = shared.lock(rt);
     journal.all_told(&mut one);
@@ -102,6 +104,45 @@ fn count_all<R: Wait>(rt: &R, mut end: ReceiveEnd<Parcel, InPlace>) -> (u64, boo
     (u64::MAX, false)
 }
 
+// Offers until the wires to the servers at places 1 and 2 are full. Nothing goes over the one to place 1 then, until a parcel was received there.
+fn fill<N: Naming, R: Wait + Abort>(
+    rt: &R,
+    alloc: Global,
+    ends: Vec<SendEnd<Parcel, InPlace>>,
+    to_first: &mut ReceiveEnd<Parcel, InPlace>,
+    events: Blank,
+    edus: Blank,
+) -> Result<(), Fail>
+    requires wires { (wires_of ends.items ≡ N.wires) × AreUnused ends.items × (length N.wires ≡ 3) × (N.own ≡ 0) }
+    requires events { (events.name ≡ N.events) × (events.parts ≡ N.parts) }
+    requires edus { (edus.name ≡ N.edus) × (edus.parts ≡ N.parts) }
+    requires clients { N.parts ≡ 2 }
+{
+    let credits = Credits::new(alloc, &ends)?;
+    let (journal, mut client) = SendingJournal::<N>::new(alloc, ends, events, edus)?;
+    let shared = &Mutex::new(journal);
+    let own = ServerIndex::new(0);
+    let first = ServerIndex::new(1);
+    for number in 1..=CAPACITY as u64 {
+        assert_eq!(rt; offer(rt, alloc, shared, &mut client), Some(Ok(number)));
+    }
+    let full = offer(rt, alloc, shared, &mut client);
+    assert_eq!(rt; full, Some(Err(EnterFault::Full(first))));
+    let full = Err(CloseFault::Full(first));
+    assert_eq!(rt; sections::close(rt, &mut shared.lock(rt), first), full);
+    let full = Err(CloseFault::Full(first));
+    assert_eq!(rt; sections::shut_down(rt, &mut shared.lock(rt), own), full);
+    assert_eq!(rt; shared.lock(rt).entries().len(), CAPACITY);
+    assert!(rt; matches!(to_first.receive(rt, false), Received::Message(_)));
+    let Some(credit) = credits.wait(rt, 1) else {
+        panic!(rt; "no credit");
+    };
+    let mut journal = shared.lock(rt);
+    journal.give(credit);
+    assert_eq!(rt; sections::close(rt, &mut journal, first), Ok(true));
+    Ok(())
+}
+
 #[test]
 fn what_is_offered_goes_over_the_wires(rt: HostRuntime) -> Result<(), Fail> {
     let alloc = rt.alloc();
@@ -112,5 +153,25 @@ fn what_is_offered_goes_over_the_wires(rt: HostRuntime) -> Result<(), Fail> {
     run::<Brand, _>(&rt, alloc, ends, Blank::new(2), Blank::new(2))?;
     assert_eq!(rt; count_all(&rt, to_first), (2, true));
     assert_eq!(rt; count_all(&rt, to_second), (3, false));
+    Ok(())
+}
+
+#[test]
+fn a_full_wire_stops_nobody_who_holds_the_journal(rt: HostRuntime) -> Result<(), Fail> {
+    let alloc = rt.alloc();
+    let (own, _) = wire(alloc)?;
+    let (first, mut to_first) = wire(alloc)?;
+    let (second, to_second) = wire(alloc)?;
+    let ends = vec![in alloc; own, first, second]?;
+    fill::<Brand, _>(
+        &rt,
+        alloc,
+        ends,
+        &mut to_first,
+        Blank::new(2),
+        Blank::new(2),
+    )?;
+    let capacity = CAPACITY as u64;
+    assert_eq!(rt; count_all(&rt, to_second), (capacity, false));
     Ok(())
 }

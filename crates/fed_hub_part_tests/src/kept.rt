@@ -6,10 +6,10 @@ ghost use Rattle.fed_wires.specs.Seat.{AreOwners};
 use fed_dest::{List, ServerIndex, ServerName, ServerSet};
 use fed_event::{Checked, Pdu, StandIn, Trusting, check_in};
 use fed_hub_kept::{
-    are_answered, are_given, are_in_places, are_of_journal, are_received, are_sent_as_stored,
-    is_of_journal, is_sent_as_stored,
+    are_answered, are_brought, are_given, are_in_places, are_of_journal, are_received,
+    are_sent_as_stored, is_of_journal, is_sent_as_stored,
 };
-use fed_hub_rooms::RoomToken;
+use fed_hub_rooms::{RoomToken, run_room};
 use fed_hub_serving::{ServeToken, ServingNaming};
 use fed_hub_state::sections::collect;
 use fed_hub_state::{KeptRoom, Naming, SeatedOutbox};
@@ -18,9 +18,10 @@ use fed_json::{Json, read};
 use fed_outbox::Outbox;
 use fed_room::{Room, started};
 use fed_room_contract::{Draft, Input, RoomEngine};
-use fed_wires::{AnyMessage, Board, ReceiveEnd, Seat, wire};
+use fed_wires::{AnyMessage, Board, ReceiveEnd, Seat, SendEnd, wire};
 use std::alloc::Global;
 use std::marker::Brand;
+use std::sync::Wait;
 use std::test::*;
 
 const FIRST: &str =
@@ -361,6 +362,38 @@ fn a_room_was_given_what_its_thread_gave(rt: HostRuntime) -> Result<(), Fail> {
     drop(sender);
     let given = is_nothing_given::<Brand>(alloc, end);
     assert_eq!(rt; given, Some([true, false]));
+    Ok(())
+}
+
+// Whether what came to a room was brought by no request: before a message came over its wire, and behind it.
+fn is_nothing_brought<N: ServingNaming, R: Wait>(
+    rt: &R,
+    alloc: Global,
+    mut sender: SendEnd<Checked, AnyMessage>,
+    end: ReceiveEnd<Checked, AnyMessage>,
+) -> Option<[bool; 2]>
+    requires wire { slice_get N.rooms 0 ≡ Some end.wire }
+    requires new { end ≡ new_receiver end.wire }
+{
+    let known = vec![in alloc; String::from_str(alloc, ROOM).ok()?].ok()?;
+    let mut room = KeptRoom::start(alloc, "a", beginning(alloc, ROOM)?).ok()?;
+    let before = are_brought(alloc, std::slice::from_ref(&room), &known, &[]).ok()?;
+    if !sender.has_room(rt, 1) {
+        return None;
+    }
+    sender.send(rt, message(alloc, ROOM)?).ok()?;
+    let mut token = RoomToken::<N>::new(alloc, 0, end);
+    run_room(rt, alloc, &mut room, &mut token, 1);
+    let behind = are_brought(alloc, std::slice::from_ref(&room), &known, &[]).ok()?;
+    Some([before, behind])
+}
+
+#[test]
+fn a_room_is_given_what_a_request_brought(rt: HostRuntime) -> Result<(), Fail> {
+    let alloc = rt.alloc();
+    let (sender, end) = wire(alloc)?;
+    let brought = is_nothing_brought::<Brand, _>(&rt, alloc, sender, end);
+    assert_eq!(rt; brought, Some([true, false]));
     Ok(())
 }
 

@@ -79,8 +79,14 @@ fn send<R: Wait>(
     one: &Checked,
     two: &Checked,
 ) -> Option<()> {
-    end.send(rt, one.copy(alloc).ok()?).ok()?;
-    end.send(rt, two.copy(alloc).ok()?).ok()
+    for event in [one, two] {
+        let copy = event.copy(alloc).ok()?;
+        if !end.has_room(rt, 1) {
+            return None;
+        }
+        end.send(rt, copy).ok()?;
+    }
+    Some(())
 }
 
 // How the thread ended, whether it gave the second message and then the first, which of the two the room has stored, and how many wait.

@@ -3,17 +3,18 @@ ghost use Rattle.std.specs.Prelude.{◌≡◌, [], IfOk, IfSome};
 ghost use Rattle.fed_inbox.specs.Receiver.{IsInboxOf};
 
 use fed_dest::{List, ServerName};
-use fed_event::Keys;
+use fed_event::{Checked, Keys};
 use fed_http::{signed_request, write_request};
 use fed_hub_serving::{
     AnsweredRequest, KeptInbox, KeptPoint, LockedInbox, ServeToken, Served, ServingDesk,
-    ServingNaming, serve_one,
+    ServingNaming, SharedInbox, serve_one,
 };
 use fed_hub_told::Note;
 use fed_inbox::{Inbox, Receiver};
 use fed_json::NoMemory;
 use fed_keys::StandIn;
 use fed_replies::ListStore;
+use fed_wires::{AnyMessage, Credits, SendEnd};
 use std::alloc::Global;
 use std::io;
 use std::io::{ErrorKind, Read, Write};
@@ -183,8 +184,11 @@ fn run<N: ServingNaming, K: Keys, T: Wait + Abort>(
     requires beginning { inbox.state ≡ N.beginning }
     requires rooms { (N.known ≡ []) × (N.rooms ≡ []) }
 {
-    let shared = Mutex::new(KeptInbox::<N, ListStore>::new(alloc, inbox, Vec::new(alloc))?);
-    let mut inbox = LockedInbox { inbox: &shared };
+    let ends: Vec<SendEnd<Checked, AnyMessage>> = Vec::new(alloc);
+    let credits = Credits::new(alloc, &ends)?;
+    let inbox = Mutex::new(KeptInbox::<N, ListStore>::new(alloc, inbox, ends)?);
+    let shared = SharedInbox { inbox, credits };
+    let mut inbox = LockedInbox { shared: &shared };
     let desk = ServingDesk {
         receiver,
         known: &[],
@@ -228,7 +232,7 @@ fn run<N: ServingNaming, K: Keys, T: Wait + Abort>(
         assert_eq!(rt; found.1.as_slice(), written);
     }
     assert_eq!(rt; token.answered().len(), 10);
-    let kept = shared.lock(rt);
+    let kept = shared.inbox.lock(rt);
     assert_eq!(rt; kept.points().len(), 10);
     assert!(rt; has_numbers(&token, &[1, 2, 3, 4, 5, 6, 7, 8, 9, 10]));
     assert!(rt; are_points(kept.points(), &token));
@@ -269,8 +273,11 @@ fn run_two<N: ServingNaming, K: Keys, T: Wait + Abort>(
     requires beginning { inbox.state ≡ N.beginning }
     requires rooms { (N.known ≡ []) × (N.rooms ≡ []) }
 {
-    let shared = Mutex::new(KeptInbox::<N, ListStore>::new(alloc, inbox, Vec::new(alloc))?);
-    let mut inbox = LockedInbox { inbox: &shared };
+    let ends: Vec<SendEnd<Checked, AnyMessage>> = Vec::new(alloc);
+    let credits = Credits::new(alloc, &ends)?;
+    let inbox = Mutex::new(KeptInbox::<N, ListStore>::new(alloc, inbox, ends)?);
+    let shared = SharedInbox { inbox, credits };
+    let mut inbox = LockedInbox { shared: &shared };
     let desk = ServingDesk {
         receiver,
         known: &[],
@@ -292,7 +299,7 @@ fn run_two<N: ServingNaming, K: Keys, T: Wait + Abort>(
     serve(rt, alloc, &desk, &mut inbox, &mut one, plain(request), 9);
     assert!(rt; has_numbers(&one, &[1, 3]));
     assert!(rt; has_numbers(&other, &[2]));
-    let kept = shared.lock(rt);
+    let kept = shared.inbox.lock(rt);
     assert_eq!(rt; kept.points().len(), 3);
     assert!(rt; are_points(kept.points(), &one));
     assert!(rt; are_points(kept.points(), &other));

@@ -1,19 +1,34 @@
 // Small runs of a wire and of a board, by two threads.
 ghost use Rattle.std.specs.Prelude.{◌≡◌, ℕ, ◌+◌, ◌<◌, length};
 ghost use Rattle.fed_wires.specs.Board.{word_count};
-ghost use Rattle.fed_wires.specs.Seat.{IsOwner};
+ghost use Rattle.fed_wires.specs.Seat.{IsOwner, IsReader};
 
-use fed_wires::{AnyMessage, Board, ReceiveEnd, Received, Seat, SendEnd, wire};
+use fed_wires::{AnyMessage, Board, CAPACITY, Credits, ReceiveEnd, Received, Seat, SendEnd, wire};
 use std::alloc::Global;
 use std::process::Abort;
 use std::sync::Wait;
 use std::test::*;
 use std::thread::{Threads, join};
 
-const COUNT: u64 = 1000;
+// More than a wire holds.
+const COUNT: u64 = 3000;
+
+// Waits until the wire has room for a message.
+fn wait_for_room<R: Wait>(rt: &R, end: &mut SendEnd<u64, AnyMessage>)
+    ensures { 0 < end.new.room }
+{
+    for _ in rt.forever() {
+        if end.has_room(rt, 1) {
+            return;
+        }
+        end.wait(rt);
+    }
+    unreachable!()
+}
 
 fn send_all<R: Wait>(rt: &R, mut end: SendEnd<u64, AnyMessage>) -> u64 {
     for number in 0..COUNT {
+        wait_for_room(rt, &mut end);
         if end.send(rt, number).is_err() {
             return number;
         }
@@ -48,6 +63,7 @@ fn a_message_comes_back_where_the_other_end_is_gone(rt: HostRuntime) -> Result<(
     sender.compare(&mut receiver);
     assert_eq!(rt; receiver.receive(&rt, false), Received::Message(7));
     let _received = receiver.finish();
+    assert!(rt; sender.has_room(&rt, 1));
     assert_eq!(rt; sender.send(&rt, 8), Err(8));
     let _sent = sender.finish();
 
@@ -59,9 +75,53 @@ fn a_message_comes_back_where_the_other_end_is_gone(rt: HostRuntime) -> Result<(
     Ok(())
 }
 
+// Fills a wire, whose messages are received until half of them are left.
+#[test]
+fn a_wire_has_room_for_as_many_as_it_does_not_hold(rt: HostRuntime) -> Result<(), Fail> {
+    let (mut sender, mut receiver) = wire::<u64, AnyMessage>(rt.alloc())?;
+    assert!(rt; sender.has_room(&rt, CAPACITY));
+    assert!(rt; !sender.has_room(&rt, CAPACITY + 1));
+    for number in 0..CAPACITY as u64 {
+        assert!(rt; sender.has_room(&rt, 1));
+        assert_eq!(rt; sender.send(&rt, number), Ok(()));
+    }
+    assert!(rt; !sender.has_room(&rt, 1));
+    for number in 0..CAPACITY as u64 / 2 {
+        assert_eq!(rt; receiver.receive(&rt, false), Received::Message(number));
+    }
+    assert!(rt; !sender.has_room(&rt, CAPACITY / 2 + 1));
+    assert!(rt; sender.has_room(&rt, CAPACITY / 2));
+    Ok(())
+}
+
+#[test]
+fn who_waits_gets_the_credit_of_what_is_received(rt: HostRuntime) -> Result<(), Fail> {
+    let (mut sender, mut receiver) = wire::<u64, AnyMessage>(rt.alloc())?;
+    for number in 0..CAPACITY as u64 {
+        wait_for_room(&rt, &mut sender);
+        assert_eq!(rt; sender.send(&rt, number), Ok(()));
+    }
+    let mut ends = vec![in rt.alloc(); sender]?;
+    let credits = Credits::new(rt.alloc(), &ends)?;
+    let (credit, _) = join(&rt, || credits.wait(&rt, 0), || receiver.receive(&rt, true));
+    let Some(credit) = credit else {
+        panic!(rt; "no credit");
+    };
+    let sender = &mut ends[0];
+    assert!(rt; !sender.has_room(&rt, 1));
+    sender.give(credit);
+    assert!(rt; sender.has_room(&rt, 1));
+    // Where the other end is gone nobody waits, and there is room for what comes back.
+    drop(receiver);
+    assert!(rt; credits.wait(&rt, 0).is_none());
+    assert!(rt; sender.has_room(&rt, 2));
+    assert_eq!(rt; sender.send(&rt, 7), Err(7));
+    Ok(())
+}
+
 fn raise_all(board: &Board, mut owner: Seat) -> Seat
     requires { (owner.board ≡ board.now.id) × IsOwner owner }
-    ensures { result.board ≡ board.now.id }
+    ensures { (result.board ≡ board.now.id) × IsOwner result }
 {
     for count in 1..=COUNT {
         board.raise(&mut owner, count);
@@ -72,8 +132,8 @@ fn raise_all(board: &Board, mut owner: Seat) -> Seat
 
 // The greatest value found, and whether the values rose.
 fn load_all(board: &Board, mut reader: Seat, word: usize) -> (Seat, u64, bool)
-    requires { (reader.board ≡ board.now.id) × (word < word_count board.now.id) }
-    ensures { result.0.board ≡ board.now.id }
+    requires { (reader.board ≡ board.now.id) × IsReader reader × (word < word_count board.now.id) }
+    ensures { (result.0.board ≡ board.now.id) × IsReader result.0 }
 {
     let mut last = 0;
     let mut rises = true;
@@ -96,18 +156,18 @@ fn run<R: Threads + Abort + Sync>(
 ) -> Result<(), Fail>
     requires board { (word_count board.id ≡ 2) × (board.readers ≡ 1) }
     requires seats { (first.board ≡ board.id) × (second.board ≡ board.id) × (reader.board ≡ board.id) }
-    requires owner { IsOwner second }
+    requires kinds { IsOwner first × IsOwner second × IsReader reader }
 {
     let shared = &board;
     let (second, (reader, last, rises)) = join(
         rt,
         || -> Seat
             requires { (second.board ≡ shared.now.id) × IsOwner second }
-            ensures { result.board ≡ shared.entry.now.id }
+            ensures { (result.board ≡ shared.entry.now.id) × IsOwner result }
         { raise_all(shared, second) },
         || -> (Seat, u64, bool)
-            requires { (reader.board ≡ shared.now.id) × (word_count shared.now.id ≡ 2) }
-            ensures { result.0.board ≡ shared.entry.now.id }
+            requires { (reader.board ≡ shared.now.id) × IsReader reader × (word_count shared.now.id ≡ 2) }
+            ensures { (result.0.board ≡ shared.entry.now.id) × IsReader result.0 }
         { load_all(shared, reader, 1) },
     );
     let mut reader = reader;
