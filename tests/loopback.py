@@ -8,6 +8,7 @@ Prints `N passed, M failed`, and ends with status 1 where one failed.
 """
 import base64
 import concurrent.futures
+import contextlib
 import hashlib
 import http.client
 import json
@@ -18,7 +19,9 @@ import socket
 import struct
 import subprocess
 import sys
+import tempfile
 import time
+import types
 
 TOP = pathlib.Path(__file__).resolve().parent.parent
 PROGRAM = TOP / "crates" / "fed_embedding" / "out" / "fed_embedding"
@@ -29,6 +32,35 @@ TOO_LARGE = (413, {"errcode": "M_TOO_LARGE", "error": "body too large"})
 NO_PATH = (404, {"errcode": "M_UNRECOGNIZED", "error": "no such path"})
 NO_METHOD = (405, {"errcode": "M_UNRECOGNIZED", "error": "method not allowed"})
 BAD_SIGNATURE = (401, {"errcode": "M_UNAUTHORIZED", "error": "bad signature"})
+# How many seconds a request and an exchange have where they are not to have 30, and how late an end of theirs may be seen.
+SECONDS, LATE = 2, 6
+# Words that the program can't read, each with what is wrong.
+WRONG = [
+    ("address", ["x"]), ("number", ["-", "x"]), ("number", ["-", "-1"]), ("number", ["-", "30", "0"]), ("number", ["-", "30", "65"]),
+]
+# What a proxy is told: where it listens and whom it asks.
+NGINX = """
+daemon off;
+master_process off;
+pid {room}/pid;
+events {{}}
+http {{
+    access_log off;
+    client_body_temp_path {room}/body;
+    proxy_temp_path {room}/proxy;
+    fastcgi_temp_path {room}/fastcgi;
+    uwsgi_temp_path {room}/uwsgi;
+    scgi_temp_path {room}/scgi;
+    server {{
+        listen {proxy};
+        location / {{
+            proxy_pass http://{server};
+            proxy_http_version 1.1;
+            proxy_set_header Host {host};
+        }}
+    }}
+}}
+"""
 
 
 def text(value):
@@ -91,6 +123,11 @@ def parsed(reply):
     if not found or int(found[2]) != len(found[3]):
         return reply
     return int(found[1]), json.loads(found[3])
+
+
+def free_address():
+    with socket.create_server(("127.0.0.1", 0)) as listener:
+        return listener.getsockname()
 
 
 class Server:
@@ -173,12 +210,76 @@ def gone_before_the_reply(server, transaction):
         connection.sendall(transaction.whole())
 
 
-def said_nothing(server):
-    """What comes back where nothing is sent, and whether that took as long as a client is waited for."""
+def timed(call, *words):
+    """What a call gives, and how many seconds it took."""
     begun = time.monotonic()
+    got = call(*words)
+    return got, time.monotonic() - begun
+
+
+def said_nothing(server):
+    """What comes back where nothing is sent, and whether it comes when a request has to be done."""
     with server.connect() as connection:
-        reply = rest_of(connection)
-    return reply, 9 < time.monotonic() - begun < 20
+        reply, took = timed(rest_of, connection)
+    return reply, is_at(took, SECONDS)
+
+
+def is_at(took, seconds):
+    return seconds - 0.5 < took < seconds + LATE
+
+
+def dribble(connection, message):
+    """Sends a message a byte at a time, and tells what comes back before it is whole; nothing where the connection is cut."""
+    connection.settimeout(0.2)
+    for at in range(len(message)):
+        try:
+            connection.sendall(message[at:at + 1])
+            return connection.recv(65_536)
+        except socket.timeout:
+            pass
+        except OSError:
+            return b""
+    return "all of it was sent"
+
+
+def dribbled(server, transactions, honest):
+    """What comes back to clients that dribble, and to an honest one behind them, and after how many seconds that one was answered."""
+    connections = [server.connect() for _ in transactions]
+    with concurrent.futures.ThreadPoolExecutor(len(transactions)) as threads:
+        dribbles = [threads.submit(dribble, *each) for each in zip(connections, (it.whole() for it in transactions))]
+        answer, took = timed(server.ask, honest.whole())
+    for connection in connections:
+        connection.close()
+    return [it.result() for it in dribbles], answer, took
+
+
+def unread(server, transactions, honest):
+    """The answer to an honest client behind others that never read theirs, and whether it comes before they have to be done."""
+    connections = [server.connect() for _ in transactions]
+    for connection, transaction in zip(connections, transactions):
+        connection.sendall(transaction.whole())
+    answer, took = timed(server.ask, honest.whole())
+    for connection in connections:
+        connection.close()
+    return answer, took < SECONDS + LATE
+
+
+def gone_within_the_body(server, transaction):
+    """Sends most of a request, and breaks the connection."""
+    with server.connect() as connection:
+        connection.setsockopt(socket.SOL_SOCKET, socket.SO_LINGER, struct.pack("ii", 1, 0))
+        connection.sendall(transaction.whole()[:-1])
+
+
+def ended_meanwhile(server, transactions):
+    """What the server prints, and whether it ends in time, where its input ends while clients dribble."""
+    connections = [server.connect() for _ in transactions]
+    with concurrent.futures.ThreadPoolExecutor(len(transactions)) as threads:
+        for each in zip(connections, (it.whole() for it in transactions)):
+            threads.submit(dribble, *each)
+        time.sleep(1)
+        end, took = timed(server.end)
+    return end, took < SECONDS + LATE
 
 
 def by_curl(server, target):
@@ -207,7 +308,8 @@ def served(server):
         ("a length and chunks", server.ask(fifth.head("Content-Length: 5", "Transfer-Encoding: chunked")), BAD_REQUEST),
         ("closed within the body", closed_within_the_body(server, fifth), b""),
         ("gone before the reply", gone_before_the_reply(server, first), None),
-        ("nothing is said", said_nothing(server), (b"", True)),
+        ("two requests in one piece, of which the first is answered", server.ask(first.whole() + fifth.whole()), first.answer),
+        ("gone within the body", gone_within_the_body(server, fifth), None),
         ("and then the request", server.ask(fifth.whole()), fifth.answer),
         ("eight at once", at_once(server, others), [it.answer for it in others]),
     ]
@@ -215,6 +317,70 @@ def served(server):
         tries.append(("curl", by_curl(server, "/x"), NO_PATH))
     tries.append(("the end", server.end(), ("took 13\nsent 0\nfinished\n", "", 0)))
     return tries
+
+
+def ended_in_a_crowd(program):
+    """What a server prints, and whether it ends in time, where its input ends while as many wait to be accepted as may."""
+    server = Server(program, "-", str(SECONDS))
+    crowd = [socket.socket() for _ in range(200)]
+    for one in crowd:
+        one.setblocking(False)
+        one.connect_ex(server.at)
+    # By now the system has tried again to connect those for whom there was no room.
+    time.sleep(SECONDS - 0.3)
+    end, took = timed(server.end)
+    for one in crowd:
+        one.close()
+    return end, took < SECONDS + LATE
+
+
+def in_time(program, peers):
+    """What is tried against a server that gives a request little time, and has a thread that serves for each of so many peers and one more."""
+    server, threads = Server(program, "-", str(SECONDS), str(peers)), peers + 1
+    first, second, third, fourth, fifth, *others = (Transaction(number) for number in range(1, 6 + 2 * threads))
+    *replies, early = dribbled(server, others[1:threads], first)
+    *all_replies, late = dribbled(server, others, second)
+    taken = 4 + len(others)
+    return [
+        ("nothing is said", said_nothing(server), (b"", True)),
+        ("and then the request", server.ask(fifth.whole()), fifth.answer),
+        ("behind clients that dribble, of whom there are fewer than threads", replies, [[b""] * peers, first.answer]),
+        ("which is at once", early < SECONDS - 0.5, True),
+        ("behind twice as many as there are threads", all_replies, [[b""] * len(others), second.answer]),
+        ("which is once each thread had two of them", is_at(late, 2 * SECONDS), True),
+        ("behind clients that read nothing", unread(server, others, third), (third.answer, True)),
+        ("and what these get when they ask again", at_once(server, others), [it.answer for it in others]),
+        ("the end while clients dribble", ended_meanwhile(server, [fourth] * threads), ((f"took {taken}\nsent 0\nfinished\n", "", 0), True)),
+    ]
+
+
+def begun(at):
+    """Waits until something listens at an address."""
+    for _ in range(100):
+        try:
+            socket.create_connection(at).close()
+            return
+        except OSError:
+            time.sleep(0.1)
+
+
+def by_nginx(program):
+    """A request that comes by a proxy, where there is one."""
+    if not shutil.which("nginx"):
+        return []
+    server, transaction = Server(program), Transaction(1)
+    proxy = types.SimpleNamespace(at=free_address())
+    with tempfile.TemporaryDirectory() as room:
+        words = {"room": room, "host": OWN, "proxy": "{}:{}".format(*proxy.at), "server": "{}:{}".format(*server.at)}
+        pathlib.Path(room, "conf").write_text(NGINX.format(**words))
+        running = subprocess.Popen(["nginx", "-p", room, "-c", f"{room}/conf", "-e", f"{room}/log"])
+        try:
+            begun(proxy.at)
+            answer = by_library(proxy, transaction)
+        finally:
+            running.terminate()
+            running.wait()
+    return [("by nginx", answer, transaction.answer), ("the end of who was behind it", server.end(), ("took 1\nsent 0\nfinished\n", "", 0))]
 
 
 def request_of(connection):
@@ -282,11 +448,86 @@ def refused(program):
     return [("nothing is taken", end, ("took 0\nsent 1\nfinished\n", "", 0))]
 
 
+def slowly_answered(program):
+    """A server whose message gets a reply that dribbles ends that exchange in time, answers requests meanwhile, and sends the message again."""
+    good = b"HTTP/1.1 200 OK\r\nContent-Length: 11\r\n\r\n{\"pdus\":{}}"
+    transactions = [Transaction(number) for number in range(1, 5)]
+    with socket.create_server(("127.0.0.1", 0)) as listener:
+        listener.settimeout(30)
+        server = Server(program, "127.0.0.1:{}".format(listener.getsockname()[1]), str(SECONDS))
+        server.running.stdin.write(b'{"body":"1"}\n')
+        server.running.stdin.flush()
+        connection, _ = listener.accept()
+        with connection, concurrent.futures.ThreadPoolExecutor(1) as threads:
+            first = request_of(connection)
+            exchange = threads.submit(timed, dribble, connection, good)
+            answers = [server.ask(it.whole()) for it in transactions]
+            meanwhile = not exchange.done()
+            reply, took = exchange.result()
+        second = answer(listener, good)
+        end = server.end()
+    return [
+        ("a reply that dribbles", (reply, is_at(took, SECONDS)), (b"", True)),
+        ("requests meanwhile", (answers, meanwhile), ([it.answer for it in transactions], True)),
+        ("what was not answered in time is sent again", as_it_should_be(first, 1) and second == first, True),
+        ("the end of who was answered slowly", end, ("took 4\nsent 1\nfinished\n", "", 0)),
+    ]
+
+
+def small_until_large(listener, reply):
+    """Takes requests and gives them this reply, up to the first one that is larger than what fits between the two, of which it reads nothing."""
+    while True:
+        connection, _ = listener.accept()
+        length = int(re.search(rb"Content-Length: (\d+)", connection.recv(500, socket.MSG_PEEK))[1])
+        if length > 150_000:
+            return connection, length
+        with connection:
+            request_of(connection)
+            with contextlib.suppress(OSError):
+                connection.sendall(reply)
+
+
+def never_read(program):
+    """A server whose large request is not read by its peer ends that exchange in time, and sends it again."""
+    good = b"HTTP/1.1 200 OK\r\nContent-Length: 11\r\n\r\n{\"pdus\":{}}"
+    with socket.create_server(("127.0.0.1", 0)) as listener:
+        listener.settimeout(30)
+        listener.setsockopt(socket.SOL_SOCKET, socket.SO_RCVBUF, 4096)
+        listener.setsockopt(socket.IPPROTO_TCP, socket.TCP_MAXSEG, 536)
+        server = Server(program, "127.0.0.1:{}".format(listener.getsockname()[1]), str(SECONDS))
+        # Several of these are in one request as soon as one was answered after all were offered.
+        server.running.stdin.write(8 * (text({"body": "x" * 60_000}) + b"\n"))
+        server.running.stdin.flush()
+        connection, length = small_until_large(listener, good)
+        with connection:
+            (again, _), took = timed(listener.accept)
+            front = rest_of(connection)
+        with again, concurrent.futures.ThreadPoolExecutor(1) as threads:
+            again.setsockopt(socket.SOL_SOCKET, socket.SO_RCVBUF, 1_000_000)
+            request_of(again)
+            again.sendall(good)
+            threads.submit(lambda: [answer(listener, good) for _ in iter(int, 1)])
+            try:
+                end = server.end()
+            finally:
+                listener.shutdown(socket.SHUT_RDWR)
+    return [
+        # It is sent again a second after it has failed.
+        ("a peer that reads nothing", (is_at(took, SECONDS + 1), len(front) < length), (True, True)),
+        ("the end of who was not read", end, ("took 0\nsent 8\nfinished\n", "", 0)),
+    ]
+
+
+def wrong_words(program):
+    """What the program says of words that it can't read."""
+    said = [subprocess.run([program, *words], stdin=subprocess.DEVNULL, stderr=subprocess.PIPE, timeout=60) for _, words in WRONG]
+    told = [(it.stderr.decode(), it.returncode) for it in said]
+    return [("wrong words", told, [(f"fed_embedding: bad {what}\n", 1) for what, _ in WRONG])]
+
+
 def unreachable(program):
     """A server whose messages reach nobody ends all the same."""
-    with socket.create_server(("127.0.0.1", 0)) as listener:
-        at = "127.0.0.1:{}".format(listener.getsockname()[1])
-    server = Server(program, at)
+    server = Server(program, "{}:{}".format(*free_address()))
     server.running.stdin.write(b'{"body":"1"}\n')
     return [("nobody is reached", server.end(), ("took 0\nsent 1\nfinished\n", "", 0))]
 
@@ -302,7 +543,9 @@ def documented():
 
 def main():
     program = pathlib.Path(sys.argv[1] if len(sys.argv) > 1 else PROGRAM).resolve()
-    tries = [*documented(), *served(Server(program)), *sent(program), *refused(program), *unreachable(program)]
+    tries = [*documented(), *served(Server(program)), *in_time(program, 1), *in_time(program, 7), *by_nginx(program), *wrong_words(program)]
+    tries.append(("the end in a crowd", ended_in_a_crowd(program), (("took 0\nsent 0\nfinished\n", "", 0), True)))
+    tries += [*sent(program), *slowly_answered(program), *never_read(program), *refused(program), *unreachable(program)]
     failed = [(name, got, want) for name, got, want in tries if got != want]
     for name, got, want in failed:
         print(f"failed: {name}: {got!r} and not {want!r}")

@@ -1,12 +1,14 @@
 //! The program `fed_embedding`: a server with its threads, as who writes one puts it together (docs/EMBEDDING.md). It is b.example, and has a room
 //! of @u:a.example and @v:b.example.
 //!
-//!     fed_embedding [ADDRESS]
+//!     fed_embedding [ADDRESS [SECONDS [PEERS]]]
 //!
 //! It serves at an address of the loopback interface, which it names on standard error. Each line of its standard input is the content of a
-//! message, an object of JSON, which goes to a.example at the address that is given. When its input ends it ends too, and prints how many
-//! events it took and sent, and that it finished. Its keys are the stand-in, which gives no security.
+//! message, an object of JSON, which goes to a.example at the address that is given; it has none where that is `-`. A request and an exchange may take
+//! so many seconds, or 30. It lists so many peers, or a.example alone, at most 64, and has a thread that serves for each of them and one more. When its
+//! input ends it ends too, and prints how many events it took and sent, and that it finished. Its keys are the stand-in, which gives no security.
 //!
+//! - `words`: what it is told by its arguments
 //! - `setup`: what the server is made of
 //! - `server`: the server, from its hub to its end
 //! - `threads`: what each of its threads does
@@ -17,16 +19,18 @@ mod server;
 mod setup;
 mod stop;
 mod threads;
+mod words;
 
 use std::alloc::Global;
 use std::env::Env;
 use std::io::{self, BufRead};
-use std::net::{Net, SocketAddr, TcpListener, TcpStream};
+use std::net::{Net, TcpListener, TcpStream};
 use std::process::ExitCode;
 use std::sync::Wait;
 use std::thread::Threads;
 use std::time::Clock;
 use stop::Stop;
+use words::Words;
 
 fn main(rt: HostRuntime) -> io::Result<ExitCode> {
     match run(&rt, rt.alloc(), rt.stdin().lock()) {
@@ -51,21 +55,8 @@ where
         + Sync,
     I: BufRead + Send + Drop,
 {
-    let peer = peer(rt)?;
-    let counts = server::run(rt, alloc, peer, input)?;
+    let counts = server::run(rt, alloc, Words::read(rt)?, input)?;
     let (took, sent) = (counts.took, counts.sent);
     println!(rt; "took {took}\nsent {sent}\nfinished")?;
     Ok(())
-}
-
-// The address of a.example, where one is given.
-fn peer<R: Env + AllocGlobal>(rt: &R) -> Result<Option<SocketAddr>, Stop> {
-    let mut words = std::env::args(rt)?.skip(1);
-    match words.next() {
-        Some(word) => match word.parse::<SocketAddr>() {
-            Ok(address) => Ok(Some(address)),
-            Err(_) => Err(Stop::BadAddress),
-        },
-        None => Ok(None),
-    }
 }

@@ -1,6 +1,7 @@
 // The server, from its hub to its end.
 use crate::setup::{PEER, setup};
 use crate::stop::Stop;
+use crate::words::Words;
 use fed_event::StandIn;
 use fed_hub::{FinishFault, Gate, Naming, Outcome, Report, ServingNaming, run_crew};
 use fed_journal::Entry;
@@ -19,25 +20,21 @@ pub(crate) struct Counts {
     pub(crate) sent: usize,
 }
 
-/// What the threads of the server share beside its hub: the runtime, where it serves, where the other server does, the input, and why it ends
-/// early, if it does. `R` is the runtime, or a reference to it.
+/// What the threads of the server share beside its hub: the runtime, where it serves, where the other server does, how many seconds a request and
+/// an exchange may take, the input, and why it ends early, if it does. `R` is the runtime, or a reference to it.
 #[derive(Drop)]
 pub(crate) struct Server<R, I> {
     pub(crate) rt: R,
     pub(crate) alloc: Global,
     pub(crate) door: Door,
     pub(crate) peer: Option<SocketAddr>,
+    pub(crate) within: u64,
     pub(crate) input: Mutex<I>,
     pub(crate) stop: Mutex<Option<Stop>>,
 }
 
 /// Runs the server until the input ends.
-pub(crate) fn run<R, I>(
-    rt: R,
-    alloc: Global,
-    peer: Option<SocketAddr>,
-    input: I,
-) -> Result<Counts, Stop>
+pub(crate) fn run<R, I>(rt: R, alloc: Global, words: Words, input: I) -> Result<Counts, Stop>
 where
     R: Threads
         + Wait
@@ -51,12 +48,13 @@ where
     let door = Door::open(&rt, SocketAddr::from((Ipv4Addr::LOCALHOST, 0)))?;
     let address = door.address();
     eprintln!(rt; "{address}")?;
-    let setup = setup(alloc, ClockGate::new(rt).now()).ok_or(Stop::NotSetUp)?;
+    let setup = setup(alloc, ClockGate::new(rt).now(), words.peers).ok_or(Stop::NotSetUp)?;
     let server = Server {
         rt,
         alloc,
         door,
-        peer,
+        peer: words.peer,
+        within: words.within,
         input: Mutex::new(input),
         stop: Mutex::new(None),
     };

@@ -9,7 +9,7 @@ use fed_room::started;
 use fed_room_contract::Draft;
 use std::alloc::Global;
 
-/// The other server, and this one; their places in the list are those of their names.
+/// The other server of the room, and this one; their places in the list are those of their names.
 pub(crate) const PEER: &str = "a.example";
 
 const OWN: &str = "b.example";
@@ -18,22 +18,25 @@ const ROOM: &str = "!r:a.example";
 
 const USERS: [&str; 2] = ["@u:a.example", "@v:b.example"];
 
-/// The server b.example with its room; its keys are the stand-in, in place of a caller's own `Keys`.
-pub(crate) fn setup(alloc: Global, epoch: u64) -> Option<Setup<StandIn>> {
+/// The server b.example with its room and so many peers; its keys are the stand-in, in place of a caller's own `Keys`.
+pub(crate) fn setup(alloc: Global, epoch: u64, peers: u64) -> Option<Setup<StandIn>> {
     Some(Setup {
         own: ServerName::read(alloc, OWN).ok()?,
-        list: servers(alloc)?,
+        list: servers(alloc, peers)?,
         rooms: rooms(alloc)?,
         keys: StandIn::new(text(alloc, OWN)?),
         epoch,
     })
 }
 
-// The list of both servers.
-fn servers(alloc: Global) -> Option<List> {
+// The list of the server and its peers: a.example, p1.example, p2.example and so on.
+fn servers(alloc: Global, peers: u64) -> Option<List> {
     let mut names = Vec::new(alloc);
-    for name in [PEER, OWN] {
-        names.push(ServerName::read(alloc, name).ok()?).ok()?;
+    names.push(ServerName::read(alloc, PEER).ok()?).ok()?;
+    names.push(ServerName::read(alloc, OWN).ok()?).ok()?;
+    for number in 1..peers {
+        let name = format!(in alloc; "p{number}.example").ok()?;
+        names.push(ServerName::read(alloc, &name).ok()?).ok()?;
     }
     List::new(names).ok()
 }

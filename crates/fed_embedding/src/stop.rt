@@ -17,6 +17,9 @@ pub(crate) enum Stop {
     /// What is given is no address.
     #[error("bad address")]
     BadAddress,
+    /// What is given is no number of seconds, or of peers.
+    #[error("bad number")]
+    BadNumber,
     /// There is no such server, or no memory for one.
     #[error("not set up")]
     NotSetUp,

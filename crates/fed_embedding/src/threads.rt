@@ -75,7 +75,7 @@ where
         token: &mut ServeToken<N>,
     ) {
         for _ in self.rt.forever() {
-            if serve(&self.rt, self.alloc, hub, token, &self.door).is_ok() {
+            if serve(&self.rt, self.alloc, hub, token, &self.door, self.within).is_ok() {
                 break;
             }
             self.pause();
@@ -131,7 +131,7 @@ impl<R: Wait + Clock + Connector + Copy, I: BufRead + Drop> Server<R, I> {
         token: &mut SenderToken<N>,
     ) -> Result<(), NoMemory> {
         let (rt, alloc) = (self.rt, self.alloc);
-        let mut carrier = TcpCarrier::new(rt, addresses(alloc, self.peer)?);
+        let mut carrier = TcpCarrier::new(rt, addresses(alloc, self.peer)?, self.within);
         let mut gate = ClockGate::new(rt);
         let mut until = u64::MAX;
         for _ in rt.forever() {

@@ -13,7 +13,7 @@ use fed_hub::{
 };
 use fed_json::{Json, NoMemory};
 use fed_room_contract::Draft;
-use fed_tcp::{ClockGate, Connector, TcpCarrier};
+use fed_tcp::{ClockGate, Connector, PATIENCE, TcpCarrier};
 use std::alloc::Global;
 use std::net::SocketAddr;
 use std::sync::Wait;
@@ -159,7 +159,8 @@ impl<R: Wait + Clock + Connector + Copy> Sender<'_, R> {
         token: &mut SenderToken<N>,
     ) -> Result<(), LoopFault> {
         let (rt, alloc) = (self.rt, self.alloc);
-        let mut carrier = TcpCarrier::new(rt, addresses(alloc, self.course.door.address())?);
+        let addresses = addresses(alloc, self.course.door.address())?;
+        let mut carrier = TcpCarrier::new(rt, addresses, PATIENCE);
         let mut gate = ClockGate::new(rt);
         for _ in rt.forever() {
             let ran = hub.run_sender(&rt, alloc, token, &mut carrier, &mut gate, TURNS);

@@ -9,7 +9,7 @@ use fed_hub::{
     ClientToken, Crew, FinishFault, Hub, Naming, Outcome, Ran, Report, RoomToken, Seat,
     SenderToken, ServeToken, ServingNaming, Tokens, run_crew,
 };
-use fed_tcp::{Connector, serve};
+use fed_tcp::{Connector, PATIENCE, serve};
 use std::alloc::Global;
 use std::sync::Wait;
 use std::thread::Threads;
@@ -76,7 +76,7 @@ impl<R: Wait + Clock + Connector + Copy> Crew<StandIn> for Taker<'_, R> {
         token: &mut ServeToken<N>,
     ) {
         let door = &self.course.door;
-        if let Err(error) = serve(&self.rt, self.alloc, hub, token, door) {
+        if let Err(error) = serve(&self.rt, self.alloc, hub, token, door, PATIENCE) {
             self.course.faults.note(&self.rt, LoopFault::from(error));
         }
         door.close(&self.rt);

@@ -2,7 +2,9 @@
 ghost use Rattle.std.specs.Prelude.{◌≡◌, ◌≤◌, ◌<◌};
 
 use crate::connector::Connector;
-use crate::patience::{PATIENCE, make_impatient};
+use crate::deadline::Deadline;
+use crate::timed::Timed;
+use crate::watch::Watch;
 use fed_connection::{Unanswered, exchange};
 use fed_dest::ServerIndex;
 use fed_http::HttpFault;
@@ -12,21 +14,22 @@ use std::alloc::Global;
 use std::io;
 use std::marker::Model;
 use std::net::{SocketAddr, TcpStream};
-use std::time::Duration;
+use std::time::{Clock, Duration};
 
-/// Brings requests over TCP, a connection for each, to the addresses of the listed servers. A socket that can't be connected, or gives or takes
-/// nothing for `PATIENCE` seconds, is a failure, as are a connection that is cut and bytes that are no reply. `R` opens the sockets: the runtime,
-/// or a reference to it.
+/// Brings requests over TCP, a connection for each, to the addresses of the listed servers. Each exchange has so many seconds, from connecting to the
+/// last byte of its reply. One that isn't done by then is a failure, as are a socket that can't be connected, a connection that is cut and bytes
+/// that are no reply. `R` opens the sockets and has the clock: the runtime, or a reference to it.
 ///
 /// Contracts see its count of faults.
 #[derive(Drop)]
-pub struct TcpCarrier<R: Connector + Copy> {
+pub struct TcpCarrier<R: Connector + Clock + Copy> {
     net: R,
     addresses: Vec<Option<SocketAddr>>,
+    within: u64,
     faults: FaultCount,
 }
 
-impl<R: Connector + Copy> Model for TcpCarrier<R> {
+impl<R: Connector + Clock + Copy> Model for TcpCarrier<R> {
     ghost use Rattle.std.specs.Prelude.{ℕ};
     ghost use Rattle.std.specs.Coded.{coded_ℕ};
 
@@ -37,14 +40,16 @@ impl<R: Connector + Copy> Model for TcpCarrier<R> {
     ghost view = { λ c. c.faults.count };
 }
 
-impl<R: Connector + Copy> TcpCarrier<R> {
-    /// A carrier to these addresses of the listed servers, by their places; a server that has none here is never reached.
-    pub fn new(net: R, addresses: Vec<Option<SocketAddr>>) -> TcpCarrier<R>
+impl<R: Connector + Clock + Copy> TcpCarrier<R> {
+    /// A carrier to these addresses of the listed servers, by their places, with `within` seconds for each exchange. A server that has no address
+    /// here is never reached.
+    pub fn new(net: R, addresses: Vec<Option<SocketAddr>>, within: u64) -> TcpCarrier<R>
         ensures { result ≡ 0 }
     {
         TcpCarrier {
             net,
             addresses,
+            within,
             faults: FaultCount::new(),
         }
     }
@@ -66,10 +71,12 @@ impl<R: Connector + Copy> TcpCarrier<R> {
         let Some(Some(address)) = self.addresses.get(dest.place()) else {
             return Err(CarrierFault::Failed);
         };
-        let Ok(stream) = connect(&self.net, *address) else {
+        let mut deadline = Deadline::new(&self.net, self.within);
+        let Ok(stream) = connect(&self.net, *address, &mut deadline) else {
             return Err(CarrierFault::Failed);
         };
-        match exchange_over(alloc, &stream, request) {
+        let socket = &stream;
+        match exchange_over(alloc, Timed { socket, deadline }, request) {
             Ok(reply) => Ok(reply),
             Err(Unanswered::Unread(Unread::Http(HttpFault::Memory))) => Err(CarrierFault::Memory),
             Err(_) => Err(CarrierFault::Failed),
@@ -77,7 +84,7 @@ impl<R: Connector + Copy> TcpCarrier<R> {
     }
 }
 
-impl<R: Connector + Copy> Carrier for TcpCarrier<R> {
+impl<R: Connector + Clock + Copy> Carrier for TcpCarrier<R> {
     ghost faults = { λ c. c };
 
     fn exchange(
@@ -93,15 +100,24 @@ impl<R: Connector + Copy> Carrier for TcpCarrier<R> {
     }
 }
 
-// A connection that waits for its socket no longer than is right.
-fn connect<R: Connector>(net: &R, address: SocketAddr) -> io::Result<TcpStream> {
-    let stream = net.connect_within(address, Duration::from_secs(PATIENCE))?;
-    make_impatient(&stream)?;
+// A connection that is there before a deadline, and lets no small write wait for the next one.
+fn connect<R: Connector, W: Watch>(
+    net: &R,
+    address: SocketAddr,
+    deadline: &mut Deadline<W>,
+) -> io::Result<TcpStream> {
+    let wait = Duration::from_millis(deadline.left()?);
+    let stream = net.connect_within(address, wait)?;
+    stream.set_nodelay(true)?;
     Ok(stream)
 }
 
 // A request over a connection, and its reply.
-fn exchange_over(alloc: Global, stream: &TcpStream, request: &[u8]) -> Result<Vec<u8>, Unanswered> {
-    let (mut reader, mut writer) = (stream, stream);
+fn exchange_over<R: Clock>(
+    alloc: Global,
+    mut reader: Timed<&TcpStream, &R>,
+    request: &[u8],
+) -> Result<Vec<u8>, Unanswered> {
+    let mut writer = reader;
     exchange(alloc, &mut reader, &mut writer, request)
 }

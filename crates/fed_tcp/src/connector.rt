@@ -6,18 +6,11 @@ use std::time::Duration;
 /// Opens connections over TCP, as a runtime with `Net` does. Unlike `Net` it has no types of its own: the toolchain covers threads that share a
 /// value with such a bound, and not with the other.
 pub trait Connector {
-    /// A connection to this address.
-    fn connect_to(&self, address: SocketAddr) -> io::Result<TcpStream>;
-
-    /// The same, which is waited for no longer than so.
+    /// A connection to this address, which is waited for no longer than so.
     fn connect_within(&self, address: SocketAddr, wait: Duration) -> io::Result<TcpStream>;
 }
 
 impl<R: Net<Stream = TcpStream>> Connector for R {
-    fn connect_to(&self, address: SocketAddr) -> io::Result<TcpStream> {
-        TcpStream::connect(self, address)
-    }
-
     fn connect_within(&self, address: SocketAddr, wait: Duration) -> io::Result<TcpStream> {
         TcpStream::connect_timeout(self, &address, wait)
     }

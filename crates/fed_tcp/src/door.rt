@@ -1,13 +1,16 @@
 // Where a server serves.
 use crate::connector::Connector;
+use std::io::{self, ErrorKind};
 use std::net::{Net, SocketAddr, TcpListener, TcpStream};
 use std::sync::Wait;
 use std::sync::atomic::{AtomicBool, Ordering};
+use std::thread;
 use std::time::{Clock, Duration};
-use std::{io, thread};
 
-/// How many milliseconds pass before a connection is tried again.
+/// How many milliseconds pass before a connection is tried again, and for how many one is waited for.
 const PAUSE: u64 = 10;
+
+const KNOCK: u64 = 1000;
 
 /// Where a server serves: what accepts connections, its address, and a flag that says that it is closed.
 #[derive(Drop)]
@@ -50,12 +53,17 @@ impl Door {
     }
 
     /// Closes it, and makes one more connection, so that a thread that waits for one is told. Who is told calls this too, and so tells the next.
-    /// Where no connection can be made it is tried again.
+    /// Where no connection can be made it is tried again; but where it takes too long, so many others wait to be accepted that no thread waits for one.
     pub fn close<R: Wait + Clock + Connector>(&self, rt: &R) {
         self.closed.store(true, Ordering::SeqCst);
         for _ in rt.forever() {
-            if rt.connect_to(self.address).is_ok() {
-                return;
+            match rt.connect_within(self.address, Duration::from_millis(KNOCK)) {
+                Ok(_) => return,
+                Err(error) => {
+                    if error.kind() == ErrorKind::TimedOut {
+                        return;
+                    }
+                }
             }
             thread::sleep(rt, Duration::from_millis(PAUSE));
         }

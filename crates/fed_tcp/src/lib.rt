@@ -2,23 +2,33 @@
 //! themselves no contract says anything.
 //!
 //! - `connector`: `Connector`, what opens connections
+//! - `deadline`: `Deadline`, a moment by which all must be done, and `PATIENCE`, how many seconds there are where an embedder has no wish
+//! - `watch`: `Watch`, what a deadline asks for the moment; a clock of the system is one
+//! - `socket`, `timed`: `Socket`, as a connection over TCP is one, and `Timed`, a reader and a writer over it that know their deadline
 //! - `carrier`: `TcpCarrier`, which brings requests over a connection each
 //! - `gate`: `ClockGate`, a clock that never goes back, and short pauses
 //! - `door`: `Door`, where a server serves until it is closed
 //! - `serving`: `serve`, one request after another off the connections that come to a door
-//! - `patience`: `PATIENCE`, how many seconds a socket is waited for
 #![tactic(auto)]
 
 mod carrier;
 mod connector;
+mod deadline;
 mod door;
 mod gate;
-mod patience;
 mod serving;
+mod socket;
+#[cfg(test)]
+mod tests;
+mod timed;
+mod watch;
 
 pub use carrier::TcpCarrier;
 pub use connector::Connector;
+pub use deadline::{Deadline, PATIENCE};
 pub use door::Door;
 pub use gate::ClockGate;
-pub use patience::PATIENCE;
 pub use serving::serve;
+pub use socket::Socket;
+pub use timed::Timed;
+pub use watch::Watch;
