@@ -10,13 +10,14 @@ use fed_hub::{Carrier, CarrierFault, FaultCount};
 use std::alloc::Global;
 use std::mem;
 use std::sync::{Arc, Wait};
+use std::time::Clock;
 
 // What a server answers that has no hub.
 const OK: &[u8] = b"HTTP/1.1 200 OK\r\nContent-Length: 11\r\n\r\n{\"pdus\":{}}";
 
 /// A carrier that brings requests to hubs of the same program, as a script says.
 #[derive(Drop)]
-pub(crate) struct PostCarrier<R: Wait> {
+pub(crate) struct PostCarrier<R: Wait + Clock> {
     way: Way<R>,
     plan: Plan,
     // the targets of the requests that were brought, in one line
@@ -26,7 +27,7 @@ pub(crate) struct PostCarrier<R: Wait> {
 
 // What brings requests to the listed servers, and the counts by which exchanges wait.
 #[derive(Drop)]
-struct Way<R: Wait> {
+struct Way<R: Wait + Clock> {
     rt: R,
     posts: Arc<Posts>,
     counts: Arc<Counts>,
@@ -40,7 +41,7 @@ struct Plan {
     dice: Dice,
 }
 
-impl<R: Wait> PostCarrier<R> {
+impl<R: Wait + Clock> PostCarrier<R> {
     /// A carrier whose exchanges all pass.
     pub(crate) fn new(
         rt: R,
@@ -72,7 +73,7 @@ impl<R: Wait> PostCarrier<R> {
     }
 }
 
-impl<R: Wait> Carrier for PostCarrier<R> {
+impl<R: Wait + Clock> Carrier for PostCarrier<R> {
     ghost faults = { λ c. c.faults.count };
 
     fn exchange(
@@ -106,7 +107,7 @@ fn note_target(targets: &mut String, request: &[u8]) {
 
 impl Plan {
     // What the next exchange comes to.
-    fn exchange<R: Wait>(
+    fn exchange<R: Wait + Clock>(
         &mut self,
         alloc: Global,
         way: &Way<R>,
@@ -141,7 +142,7 @@ fn throw(dice: &mut Dice, seed: u64, dest: ServerIndex) -> u64 {
     dice.throw()
 }
 
-impl<R: Wait> Way<R> {
+impl<R: Wait + Clock> Way<R> {
     // What comes of a request that is brought.
     fn pass(
         &self,

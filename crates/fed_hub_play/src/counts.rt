@@ -3,9 +3,12 @@ use std::alloc::Global;
 use std::collections::BTreeMap;
 use std::sync::{Mutex, Wait};
 use std::thread;
+use std::time::{Clock, Duration};
 
-// How often a count is looked at, at most, by one who waits for it.
+// How often a count is looked at, at most, by one who waits for it, and after how many microseconds again.
 const MOST_LOOKS: u64 = 100_000_000;
+
+const BETWEEN: u64 = 50;
 
 /// Counts by name, by which threads wait for one another. One that was never raised is 0.
 #[derive(Drop)]
@@ -40,12 +43,12 @@ impl Counts {
     }
 
     /// Whether a count is so much within a hundred million looks.
-    pub(crate) fn waits_for<R: Wait>(&self, rt: &R, name: &str, least: u64) -> bool {
+    pub(crate) fn waits_for<R: Wait + Clock>(&self, rt: &R, name: &str, least: u64) -> bool {
         for _ in 0..MOST_LOOKS {
             if self.count(rt, name) >= least {
                 return true;
             }
-            thread::yield_now();
+            thread::sleep(rt, Duration::from_micros(BETWEEN));
         }
         false
     }

@@ -34,7 +34,7 @@ pub(crate) fn report_text<N: Naming + ServingNaming>(
         "finished\njournal: {events} events, {edus} edus, {closings} closings\nrequests: {points}\ntold: {told}"
     )?;
     for outbox in &report.outboxes {
-        add_server(alloc, &mut text, scene, outbox.outbox(), report)?;
+        add_server(alloc, &mut text, scene, outbox, report)?;
     }
     for room in &report.rooms {
         add_room(alloc, &mut text, room)?;

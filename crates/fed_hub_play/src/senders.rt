@@ -8,12 +8,13 @@ use crate::texts::{collected_text, collected_word, ran_word};
 use fed_event::StandIn;
 use fed_hub::{Collected, Hub, Naming, Ran, SenderToken, ServingNaming};
 use std::sync::{Arc, Wait};
+use std::time::Clock;
 
 // How often a thread is called again at most before it counts as one that does not end.
 const CALLS: usize = 100_000;
 
 /// Does what is asked until it is to leave.
-pub(crate) fn sender<N: Naming + ServingNaming, R: Wait + Copy>(
+pub(crate) fn sender<N: Naming + ServingNaming, R: Wait + Clock + Copy>(
     cast: &Cast<R>,
     hub: &Hub<N, StandIn>,
     desk: &Desk,
@@ -59,7 +60,7 @@ pub(crate) fn sender<N: Naming + ServingNaming, R: Wait + Copy>(
 }
 
 // How many parcels are moved, so many at most, and what was told last.
-fn collect<N: Naming + ServingNaming, R: Wait>(
+fn collect<N: Naming + ServingNaming, R: Wait + Clock>(
     rt: &R,
     hub: &Hub<N, StandIn>,
     token: &mut SenderToken<N>,
@@ -76,7 +77,7 @@ fn collect<N: Naming + ServingNaming, R: Wait>(
 }
 
 // Makes a few turns at a time, by a seed, until the destination is drained.
-fn deliver<N: Naming + ServingNaming, R: Wait>(
+fn deliver<N: Naming + ServingNaming, R: Wait + Clock>(
     cast: &Cast<R>,
     hub: &Hub<N, StandIn>,
     token: &mut SenderToken<N>,

@@ -9,12 +9,13 @@ use fed_hub::{Hub, Naming, ServeToken, Served, ServingNaming};
 use std::alloc::{AllocError, Global};
 use std::io::{self, ErrorKind, Read, Write};
 use std::sync::Wait;
+use std::time::Clock;
 
 // How often a request comes again at most.
 const CALLS: usize = 100_000;
 
 /// Does what is asked until it is to leave.
-pub(crate) fn server<N: Naming + ServingNaming, R: Wait>(
+pub(crate) fn server<N: Naming + ServingNaming, R: Wait + Clock>(
     cast: &Cast<R>,
     hub: &Hub<N, StandIn>,
     serving: &ServeDesk,
@@ -28,7 +29,7 @@ pub(crate) fn server<N: Naming + ServingNaming, R: Wait>(
 }
 
 // Does what is asked; whether the thread goes on.
-fn goes_on<N: Naming + ServingNaming, R: Wait>(
+fn goes_on<N: Naming + ServingNaming, R: Wait + Clock>(
     cast: &Cast<R>,
     hub: &Hub<N, StandIn>,
     serving: &ServeDesk,
@@ -56,7 +57,7 @@ fn goes_on<N: Naming + ServingNaming, R: Wait>(
 }
 
 // The reply to a request, or no bytes where it is not written whole.
-fn reply_to<N: Naming + ServingNaming, R: Wait>(
+fn reply_to<N: Naming + ServingNaming, R: Wait + Clock>(
     rt: &R,
     alloc: Global,
     hub: &Hub<N, StandIn>,
@@ -72,7 +73,7 @@ fn reply_to<N: Naming + ServingNaming, R: Wait>(
 }
 
 // What becomes of requests: what was told of the last one, and how many were told just that.
-fn bring<N: Naming + ServingNaming, R: Wait>(
+fn bring<N: Naming + ServingNaming, R: Wait + Clock>(
     cast: &Cast<R>,
     hub: &Hub<N, StandIn>,
     token: &mut ServeToken<N>,
@@ -94,7 +95,7 @@ fn bring<N: Naming + ServingNaming, R: Wait>(
 }
 
 // What becomes of a request. Where a writer fails now and then, it comes again until its reply is written whole.
-fn bring_one<N: Naming + ServingNaming, R: Wait>(
+fn bring_one<N: Naming + ServingNaming, R: Wait + Clock>(
     cast: &Cast<R>,
     hub: &Hub<N, StandIn>,
     token: &mut ServeToken<N>,
@@ -119,13 +120,13 @@ fn bring_one<N: Naming + ServingNaming, R: Wait>(
 
 // Gives its bytes, where it is held once a count was raised; it raises another one, `reading`, when it is asked.
 #[derive(Drop)]
-struct HeldReader<'a, R: Wait> {
+struct HeldReader<'a, R: Wait + Clock> {
     cast: &'a Cast<R>,
     held: Option<&'a str>,
     bytes: &'a [u8],
 }
 
-impl<R: Wait> Read for HeldReader<'_, R> {
+impl<R: Wait + Clock> Read for HeldReader<'_, R> {
     fn read(&mut self, buffer: &mut [u8]) -> io::Result<usize> {
         if let Some(name) = self.held {
             let (rt, counts) = (&self.cast.rt, &self.cast.counts);
