@@ -10,6 +10,9 @@
  *                                alone, call with `out_len` 0.
  *     any other                  nothing is written, neither to `out` nor to `*needed`.
  *
+ * Where several faults are there, the one that is told is the first in the order in which a function's comment names them: a call looks at its
+ * arguments in that order, and at the next one only where those before have no fault.
+ *
  * No answer ends with a null byte. Two calls with the same bytes give the same answer, but WIKZORD_MEMORY may come in its place each time.
  *
  * Pointers. Every pointer is given, and never null: for no bytes give the address of any byte, and the length 0. `out` and what `needed`,
@@ -17,6 +20,7 @@
  * below 2^63. The caller owns every buffer, before and after.
  *
  * Lists. A list comes as the JSON text of an array, and is given as one; wikzord_event_ids and wikzord_content_hashes have a form of their own.
+ * A value that is no such list is refused, never taken for an empty one.
  *
  * Memory. A function takes memory by malloc, and gives all of it back by free before it returns. Nothing is kept between calls, and there is
  * no state: calls may run in any number of threads at once. None may be made from a signal handler, or in the child of a fork of a process
@@ -32,6 +36,15 @@
 #ifdef __cplusplus
 extern "C" {
 #endif
+
+/*
+ * The number of this interface: of the functions, what each is given and answers, and the numbers below. It is raised where one of these changes
+ * so that a program for the number before would not expect it. wikzord_version, which returns no status, tells the number of the library that a
+ * program has loaded: where it is another one than the program was compiled with, make no other call.
+ */
+#define WIKZORD_VERSION 1
+
+uint32_t wikzord_version(void);
 
 /* How a call ends. */
 enum wikzord_status {
@@ -57,8 +70,10 @@ enum wikzord_status {
     WIKZORD_BAD_SIGNATURE = 19,   /* a signature has not 64 bytes */
     WIKZORD_NOT_SIGNED = 20,      /* an event has no signature of its sender's server */
     WIKZORD_BAD_EVENTS = 21,      /* the value is no array of the events of a room, each behind those that it names */
-    WIKZORD_BAD_STATE = 22,       /* the value is no array of the ids of state events of the room, or no array of such arrays */
-    WIKZORD_BAD_SERVERS = 23      /* the value is no array of the names of servers */
+    WIKZORD_BAD_STATE = 22,       /* no array of the ids of state events of the room, or of such arrays; or two events at one type and state key */
+    WIKZORD_BAD_SERVERS = 23,     /* the value is no array of the names of servers */
+    WIKZORD_BAD_IDS = 24,         /* the value is no array of texts, which are the ids of events */
+    WIKZORD_MISSING_EVENTS = 25   /* an event names an auth event that is not among those that are given */
 };
 
 /* A field of an event; WIKZORD_FIELD_EVENT stands for the event itself. */
@@ -138,7 +153,7 @@ uint32_t wikzord_content_hashes(const uint8_t *texts, size_t texts_len, const si
 /*
  * Whether the hash that an event gives at `hashes.sha256` is its content hash.
  *
- * WIKZORD_DONE where it is, WIKZORD_HASH_DIFFERS where it is another or there is none; WIKZORD_NOT_JSON, or WIKZORD_NOT_CANONICAL.
+ * WIKZORD_NOT_JSON, or WIKZORD_NOT_CANONICAL; else WIKZORD_DONE where it is, and WIKZORD_HASH_DIFFERS where it is another or there is none.
  */
 uint32_t wikzord_hash_fits(const uint8_t *text, size_t text_len);
 
@@ -169,11 +184,12 @@ uint32_t wikzord_auth_selection(const uint8_t *text, size_t text_len, uint8_t *o
 /* ---- requests and transactions ---- */
 
 /*
- * The bytes that are signed for a request (Server-Server API, "Request Authentication"), by its method, its target as it is written, the
- * names of the server that sends and of the one that receives, and its body, `content`, as it is sent. Without a body give no bytes. The
- * result is the canonical JSON of that section where the body is a canonical text.
+ * The bytes that are signed for a request (Server-Server API, "Request Authentication"): the canonical JSON of that section, by the request's
+ * method, its target as it is written, the names of the server that sends and of the one that receives, and the value of its body, `content`,
+ * which may stand there in any spacing and order of keys. Without a body give no bytes: then there is no content.
  *
- * WIKZORD_NOT_UTF8 where one of the four texts is not UTF-8.
+ * WIKZORD_NOT_UTF8 where one of the four texts is not UTF-8; then WIKZORD_NOT_JSON, or WIKZORD_NOT_CANONICAL, where the body is no JSON text of whole
+ * numbers.
  */
 uint32_t wikzord_request_text(const uint8_t *method, size_t method_len, const uint8_t *target, size_t target_len,
                               const uint8_t *origin, size_t origin_len, const uint8_t *destination, size_t destination_len,
@@ -231,36 +247,54 @@ uint32_t wikzord_reply(const uint8_t *verdicts, size_t verdicts_len, uint8_t *ou
  * `events` is an array of the events of a room. Each stands behind the events that it names as prev events and as auth events, which all stand
  * there, and none stands there twice. Each passes the tests of wikzord_event_test and has a signature of its sender's server; whether
  * signatures check is the caller's to see before. Of an event whose content hash does not fit the redaction is looked at. `state` is an array
- * of the ids of the events that hold in a state of the room: each is a state event of `events`, and of two at one type and state key the
- * later one holds.
+ * of the ids of the events that hold in a state of the room: each is a state event of `events`, and no two stand at one type and state key.
  *
- * Each function that has them returns WIKZORD_NOT_JSON or WIKZORD_NOT_CANONICAL where one of these is no JSON text of whole numbers,
- * WIKZORD_BAD_EVENTS where `events` is no such array, and WIKZORD_BAD_STATE where `state` is none.
+ * A function that is given several of these looks at one after another, in the order that it names. Of each it returns WIKZORD_NOT_JSON or
+ * WIKZORD_NOT_CANONICAL where it is no JSON text of whole numbers; then WIKZORD_BAD_EVENTS where `events` is no such array, and WIKZORD_BAD_STATE
+ * where `state` is none.
  */
 
 /*
  * Whether a room allows an event (room version 10, "Authorization rules"), by the state before it, or any other: no bytes where it does, so
  * that `*needed` is 0; else three bytes, the numbers of the rule that rejects it, of the rule's condition and of the condition's branch, each
- * 0 where there is none: 4, 3 and 7 for rule 4.3.7. Rule 2, on the auth events that the event names, is not looked at, but by 2.4 a state
- * without a create event rejects all but a create event. `authorised` tells whether the signatures of other servers than the sender's have
- * checked, which the rules ask of the server of `join_authorised_via_users_server`.
+ * 0 where there is none: 4, 3 and 7 for rule 4.3.7. Rule 2, on the auth events that the event names, is not looked at: that does
+ * wikzord_allowed_by_auth_events. But by 2.4 a state without a create event rejects all but a create event. `authorised` tells whether the signatures
+ * of other servers than the sender's have checked, which the rules ask of the server of `join_authorised_via_users_server`.
  *
  * Here `state` is an array of events, in any order: those of the state, of which the ones that wikzord_auth_selection names are enough. Each
- * passes the tests of wikzord_event_test and has a signature of its sender's server. Of two at one type and state key the first counts, and the
- * create event among them is taken for the first event of the room.
+ * passes the tests of wikzord_event_test and has a signature of its sender's server, and the create event among them is taken for the first event
+ * of the room.
  *
- * WIKZORD_NOT_JSON or WIKZORD_NOT_CANONICAL where `state` is no JSON text of whole numbers, WIKZORD_BAD_EVENTS where it is no such array; then
- * the status of the first test that the event fails, as wikzord_event_test tells it, or WIKZORD_NOT_SIGNED.
+ * WIKZORD_NOT_JSON or WIKZORD_NOT_CANONICAL where `state` is no JSON text of whole numbers, WIKZORD_BAD_EVENTS where it is no such array,
+ * WIKZORD_BAD_STATE where one of them is no state event or two stand at one type and state key; then the status of the first test that the event
+ * fails, as wikzord_event_test tells it; then WIKZORD_NOT_SIGNED.
  */
 uint32_t wikzord_allowed(const uint8_t *text, size_t text_len, const uint8_t *state, size_t state_len, bool authorised,
                          uint8_t *out, size_t out_len, size_t *needed);
+
+/*
+ * Whether an event is allowed by the auth events that it names (room version 10, "Authorization rules"; Server-Server API, "Checks performed on
+ * receipt of a PDU", check 4): rule 2, and then the others by the state that these make. The answer, and `authorised`, are as in wikzord_allowed.
+ *
+ * `auth_events` is an array of events, in any order, among which all are that the event names: others count for nothing. Each passes the tests of
+ * wikzord_event_test and has a signature of its sender's server. `rejected` is an array of the ids of events that were rejected, by their auth
+ * events or by the state before them (rule 2.3); an id of none of `auth_events` counts for nothing.
+ *
+ * WIKZORD_NOT_JSON or WIKZORD_NOT_CANONICAL where `rejected` is no JSON text of whole numbers, WIKZORD_BAD_IDS where it is no such array; then
+ * WIKZORD_NOT_JSON, WIKZORD_NOT_CANONICAL or WIKZORD_BAD_EVENTS where `auth_events` is none; then the status of the first test that the event
+ * fails, as wikzord_event_test tells it; then WIKZORD_NOT_SIGNED; then WIKZORD_MISSING_EVENTS.
+ */
+uint32_t wikzord_allowed_by_auth_events(const uint8_t *text, size_t text_len, const uint8_t *auth_events, size_t auth_events_len,
+                                        const uint8_t *rejected, size_t rejected_len, bool authorised,
+                                        uint8_t *out, size_t out_len, size_t *needed);
 
 /*
  * The servers that an event goes to (Server-Server API, "PDUs"), by the state before it: the canonical text of an array of those of `servers`,
  * in their order, that have a user who is joined, without `own`, which is the name of the own server. `servers` is an array of names. It takes
  * time for each event of the state and each server.
  *
- * WIKZORD_BAD_SERVERS where it is none; then what is so of the events and the state.
+ * WIKZORD_NOT_JSON or WIKZORD_NOT_CANONICAL where `servers` is no JSON text of whole numbers, WIKZORD_BAD_SERVERS where it is no such array; then
+ * what is so of `events`, and then of `state`.
  */
 uint32_t wikzord_destinations(const uint8_t *events, size_t events_len, const uint8_t *state, size_t state_len,
                               const uint8_t *servers, size_t servers_len, const uint8_t *own, size_t own_len,
@@ -269,7 +303,10 @@ uint32_t wikzord_destinations(const uint8_t *events, size_t events_len, const ui
 /*
  * The state that several states of a room resolve to (room version 2, "State resolution"): the canonical text of an array of the ids of its
  * events, in the order of their types and, within a type, of their state keys. `states` is an array of states, and `rejected` an array of the
- * ids of the events that were rejected, by their auth events or by the state before them; what else stands there counts for nothing.
+ * ids of the events that were rejected, by their auth events or by the state before them; an id of none of `events` counts for nothing.
+ *
+ * WIKZORD_NOT_JSON or WIKZORD_NOT_CANONICAL where `rejected` is no JSON text of whole numbers, WIKZORD_BAD_IDS where it is no such array; then
+ * what is so of `events`; then WIKZORD_NOT_JSON, WIKZORD_NOT_CANONICAL or WIKZORD_BAD_STATE where `states` is no array of states.
  */
 uint32_t wikzord_resolve(const uint8_t *events, size_t events_len, const uint8_t *rejected, size_t rejected_len,
                          const uint8_t *states, size_t states_len, uint8_t *out, size_t out_len, size_t *needed);

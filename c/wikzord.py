@@ -1,9 +1,12 @@
 """Wikzord's federation core: Matrix's canonical JSON, events, requests and transactions.
 
-A module over libwikzord.so, which c/build.sh builds: the file beside this one in out/, or the one that the environment's
-WIKZORD_LIBRARY names. Texts of JSON are given as bytes, or as a str, which is encoded in UTF-8. What a call refuses raises `Refused`, and
-memory that runs out `MemoryError`. Calls may run in any number of threads, and several at once: ctypes lets others run meanwhile.
+A module over libwikzord.so, which c/build.sh builds: the file beside this one, or in out/ beside it, or the one that the environment's
+WIKZORD_LIBRARY names. A JSON value is given as its text, bytes or a str, or as a dict or a list, which is written as JSON. A text is given as bytes,
+or as a str, which is encoded in UTF-8. What a call refuses raises `Refused`, with the first fault in the order in which it names them, also where a
+str has a lone surrogate and so no UTF-8; memory that runs out raises `MemoryError`, and an argument that is no text and no value `TypeError`. Calls
+may run in any number of threads, and several at once: ctypes lets others run meanwhile.
 """
+import collections.abc
 import ctypes
 import enum
 import json
@@ -11,6 +14,16 @@ import os
 import pathlib
 import threading
 import typing
+
+
+__all__ = [
+    "EventFault", "Field", "Part", "Refused", "Rule", "Status", "TransactionFault", "VERSION", "XMatrix", "allowed", "allowed_by_auth_events",
+    "auth_selection", "canonical", "content_hash", "content_hashes", "destinations", "event_fault", "event_id", "event_ids", "hash_fits", "redaction",
+    "reply", "request_text", "resolve", "signed_text", "transaction_fault", "x_matrix", "x_matrix_header",
+]
+
+# The number of the interface that this module is for: `WIKZORD_VERSION` of wikzord.h.
+VERSION = 1
 
 
 class Status(enum.IntEnum):
@@ -40,6 +53,8 @@ class Status(enum.IntEnum):
     BAD_EVENTS = 21
     BAD_STATE = 22
     BAD_SERVERS = 23
+    BAD_IDS = 24
+    MISSING_EVENTS = 25
 
 
 class Field(enum.IntEnum):
@@ -114,9 +129,28 @@ class XMatrix(typing.NamedTuple):
 
 
 Text = typing.Union[bytes, bytearray, memoryview, str]
+Value = typing.Union[Text, typing.Dict[str, typing.Any], typing.List[typing.Any]]
 
-_HERE = pathlib.Path(__file__).resolve().parent
-_library = ctypes.CDLL(os.environ.get("WIKZORD_LIBRARY") or str(_HERE / "out" / "libwikzord.so"))
+
+def _load():
+    """The library, where it is there and has the interface that this module is for."""
+    here = pathlib.Path(__file__).resolve().parent
+    beside, built = here / "libwikzord.so", here / "out" / "libwikzord.so"
+    path = os.environ.get("WIKZORD_LIBRARY") or str(beside if beside.exists() else built)
+    if not os.path.exists(path):
+        raise ImportError(f"wikzord: there is no library {path}: c/build.sh makes it in c/out, and WIKZORD_LIBRARY can name another file")
+    try:
+        library = ctypes.CDLL(path)
+    except OSError as error:
+        raise ImportError(f"wikzord: the library {path} can't be loaded: {error}; c/build.sh makes one for this machine in c/out") from error
+    version = library.wikzord_version() if hasattr(library, "wikzord_version") else None
+    if version != VERSION:
+        has = "no number of its interface" if version is None else f"interface {version}"
+        raise ImportError(f"wikzord: the library {path} has {has}, and this module is for interface {VERSION}: make it again by c/build.sh")
+    return library
+
+
+_library = _load()
 
 # A function gets a text as bytes, lengths as an array, and each other argument as a parameter of its C type. Most of these are made once, since
 # ctypes takes about as long to make them as a short call takes.
@@ -146,6 +180,7 @@ _reply = _function("reply")
 _transaction_test = _function("transaction_test")
 _transaction_error = _function("transaction_error")
 _allowed = _function("allowed")
+_allowed_by_auth_events = _function("allowed_by_auth_events")
 _destinations = _function("destinations")
 _resolve = _function("resolve")
 
@@ -175,10 +210,38 @@ class _Outputs(threading.local):
 _outputs = _Outputs()
 
 
-def _bytes(text):
-    if type(text) is bytes:
-        return text
-    return text.encode() if isinstance(text, str) else bytes(text)
+def _bytes(value):
+    """The text of a JSON value. What is no UTF-8 in a str is none in the bytes either, and so no JSON."""
+    if type(value) is bytes:
+        return value
+    if isinstance(value, (dict, list)):
+        value = _written(value)
+    return value.encode("utf-8", "surrogatepass") if isinstance(value, str) else bytes(memoryview(value))
+
+
+def _text(text):
+    """The bytes of a text."""
+    if not isinstance(text, str):
+        return bytes(memoryview(text))
+    try:
+        return text.encode()
+    except UnicodeEncodeError:
+        raise Refused(Status.NOT_UTF8) from None
+
+
+def _written(value):
+    """The JSON text of a value; of one that nests too deep for Python, and so for JSON that is read, a text that is no JSON."""
+    try:
+        return json.dumps(value, ensure_ascii=False, separators=(",", ":"))
+    except RecursionError:
+        return "["
+
+
+def _items(values):
+    """Those of a list, a set or another iterable; a text or an object is none, though Python goes over its parts."""
+    if isinstance(values, (str, bytes, bytearray, memoryview, collections.abc.Mapping)):
+        raise TypeError(f"a list is wanted, not {type(values).__name__}")
+    return list(values)
 
 
 def _refuse(status):
@@ -211,7 +274,7 @@ def _text_answer(function, text):
 
 def _answers(function, texts, size):
     """What calls make of texts, so many bytes of each, as texts."""
-    texts = [text if type(text) is bytes else _bytes(text) for text in texts]
+    texts = [text if type(text) is bytes else _bytes(text) for text in _items(texts)]
     answers = []
     for start in range(0, len(texts), 128):
         some = texts[start : start + 128]
@@ -232,45 +295,45 @@ def _long_answer(status, function, arguments, needed):
     return output.buffer.raw
 
 
-def canonical(text: Text, levels: int = 127) -> bytes:
-    """The canonical text of the value of a JSON text that nests at most so deep. Refused: NOT_JSON, NOT_CANONICAL, TOO_DEEP."""
+def canonical(value: Value, levels: int = 127) -> bytes:
+    """The canonical text of a value that nests at most so deep. Refused: NOT_JSON, NOT_CANONICAL, TOO_DEEP."""
     if levels < 0:
         raise ValueError("levels below 0")
-    text = _bytes(text)
+    text = _bytes(value)
     return _answer(_canonical, text, _number(len(text)), _NUMBERS[levels if levels < 127 else 127])
 
 
-def redaction(event: Text) -> bytes:
+def redaction(event: Value) -> bytes:
     """The canonical text of what redaction leaves of an event. Refused: NOT_JSON, NOT_CANONICAL."""
     return _text_answer(_redaction, event)
 
 
-def signed_text(event: Text) -> bytes:
+def signed_text(event: Value) -> bytes:
     """The bytes of an event that its servers sign. Refused: NOT_JSON, NOT_CANONICAL."""
     return _text_answer(_signed_text, event)
 
 
-def event_id(event: Text) -> str:
+def event_id(event: Value) -> str:
     """The id of an event. Refused: NOT_JSON, NOT_CANONICAL."""
     return _text_answer(_event_id, event).decode()
 
 
-def content_hash(event: Text) -> str:
+def content_hash(event: Value) -> str:
     """The content hash of an event. Refused: NOT_JSON, NOT_CANONICAL."""
     return _text_answer(_content_hash, event).decode()
 
 
-def event_ids(events: typing.Iterable[Text]) -> typing.List[str]:
+def event_ids(events: typing.Iterable[Value]) -> typing.List[str]:
     """The ids of events, of many by each call. Refused: as `event_id` refuses the first that has none."""
     return _answers(_event_ids, events, 44)
 
 
-def content_hashes(events: typing.Iterable[Text]) -> typing.List[str]:
+def content_hashes(events: typing.Iterable[Value]) -> typing.List[str]:
     """The content hashes of events, of many by each call. Refused: as `content_hash` refuses the first that has none."""
     return _answers(_content_hashes, events, 43)
 
 
-def hash_fits(event: Text) -> bool:
+def hash_fits(event: Value) -> bool:
     """Whether the hash that an event gives is its content hash. Refused: NOT_JSON, NOT_CANONICAL."""
     status = _hash_fits(*_slices(event))
     if status not in (Status.DONE, Status.HASH_DIFFERS):
@@ -278,14 +341,14 @@ def hash_fits(event: Text) -> bool:
     return status == Status.DONE
 
 
-def event_fault(event: Text) -> typing.Optional[EventFault]:
+def event_fault(event: Value) -> typing.Optional[EventFault]:
     """The first of the tests on receipt that an event fails, and None where it passes all."""
     event = _bytes(event)
     told = _fault(_event_test, _event_error, Field, event)
     return told and EventFault(*told)
 
 
-def transaction_fault(body: Text) -> typing.Optional[TransactionFault]:
+def transaction_fault(body: Value) -> typing.Optional[TransactionFault]:
     """The first fault of the body of a transaction, whose events are not tested, and None where it has none."""
     body = _bytes(body)
     told = _fault(_transaction_test, _transaction_error, Part, body)
@@ -305,65 +368,84 @@ def _fault(test, error, places, text):
     return Status(status), None if place.value == untold else places(place.value), words
 
 
-def request_text(method: Text, target: Text, origin: Text, destination: Text, content: Text = b"") -> bytes:
-    """The bytes that are signed for a request; `content` is its body as it is sent. Refused: NOT_UTF8."""
-    return _answer(_request_text, *_slices(method, target, origin, destination, content))
+def request_text(method: Text, target: Text, origin: Text, destination: Text, content: Value = b"") -> bytes:
+    """The bytes that are signed for a request: its canonical JSON, with the value of its body, `content`, where it has one.
+
+    The body may be given as it came, in any spacing, or as its value. Refused: NOT_UTF8, and then, of the body, NOT_JSON, NOT_CANONICAL.
+    """
+    texts = map(_text, (method, target, origin, destination))
+    return _answer(_request_text, *_slices(*texts, _bytes(content)))
 
 
-def auth_selection(event: Text) -> typing.List[typing.Tuple[str, str]]:
+def auth_selection(event: Value) -> typing.List[typing.Tuple[str, str]]:
     """At which types and state keys of a state the auth events of an event stand, in their order. Refused: as the event's test fails."""
     return [(kind, state_key) for kind, state_key in json.loads(_text_answer(_auth_selection, event))]
 
 
 def x_matrix(header: Text) -> XMatrix:
     """What the text of an Authorization field says by the scheme X-Matrix. Refused: NOT_UTF8, BAD_HEADER."""
-    header = _bytes(header)
+    header = _text(header)
     origin, destination, key, signature = (_text_answer(part, header) for part in _x_matrix)
     return XMatrix(origin.decode(), destination.decode() or None, key.decode(), signature)
 
 
 def x_matrix_header(said: XMatrix) -> str:
     """The text of an Authorization field by the scheme X-Matrix. Refused: NOT_UTF8, BAD_SIGNATURE."""
-    return _answer(_x_matrix_header, *_slices(said.origin, said.destination or "", said.key, said.signature)).decode()
+    return _answer(_x_matrix_header, *_slices(*map(_text, (said.origin, said.destination or "", said.key, said.signature)))).decode()
 
 
 def reply(verdicts: typing.Mapping[str, typing.Optional[str]]) -> bytes:
-    """The body of the reply to a transaction, by the id of each event: None where it was taken, or the text of its error."""
-    text = json.dumps({event_id: error or "" for event_id, error in verdicts.items()}, ensure_ascii=False).encode()
-    return _text_answer(_reply, text)
+    """The body of the reply to a transaction, by the id of each event: None where it was taken, or the text of its error. Refused: NOT_JSON."""
+    return _text_answer(_reply, {event_id: error or "" for event_id, error in verdicts.items()})
 
 
-def allowed(event: Text, state: typing.Iterable[Text], authorised: bool = False) -> typing.Optional[Rule]:
+def allowed(event: Value, state: typing.Iterable[Value], authorised: bool = False) -> typing.Optional[Rule]:
     """The authorization rule that rejects an event by a state of its room, and None where the room allows it.
 
     `state` has the events of the state, of which those at the keys of `auth_selection` are enough. `authorised` tells whether the signatures of
-    other servers than the sender's have checked. Refused: NOT_JSON, NOT_CANONICAL, BAD_EVENTS, as the event's test fails, NOT_SIGNED.
+    other servers than the sender's have checked. Refused: of the state NOT_JSON, NOT_CANONICAL, BAD_EVENTS, BAD_STATE; then as the event's test
+    fails, NOT_SIGNED.
     """
-    numbers = _answer(_allowed, *_slices(event, _array(state)), _truth(authorised))
-    return Rule(*numbers) if numbers else None
+    return _rule(_answer(_allowed, *_slices(event, _array(state)), _truth(authorised)))
 
 
-def destinations(events: typing.Iterable[Text], state: typing.Iterable[str], servers: typing.Iterable[str], own: str) -> typing.List[str]:
+def allowed_by_auth_events(
+    event: Value, auth_events: typing.Iterable[Value], rejected: typing.Iterable[str] = (), authorised: bool = False
+) -> typing.Optional[Rule]:
+    """The authorization rule that rejects an event by the auth events that it names, and None where they allow it.
+
+    `auth_events` has these events, and may have others, which count for nothing; `rejected` the ids of those that were rejected. `authorised` is as
+    in `allowed`. Refused: of the ids NOT_JSON, BAD_IDS; of the auth events NOT_JSON, NOT_CANONICAL, BAD_EVENTS; then as the event's test fails,
+    NOT_SIGNED, MISSING_EVENTS.
+    """
+    return _rule(_answer(_allowed_by_auth_events, *_slices(event, _array(auth_events), _items(rejected)), _truth(authorised)))
+
+
+def destinations(events: typing.Iterable[Value], state: typing.Iterable[str], servers: typing.Iterable[str], own: Text) -> typing.List[str]:
     """Those of `servers` that an event goes to, in their order: they have a user who is joined in the state before it, and are not the own one.
 
-    `events` are the room's events, each behind those that it names, and `state` the ids of those that hold in the state. Refused: NOT_JSON,
-    NOT_CANONICAL, BAD_SERVERS, BAD_EVENTS, BAD_STATE.
+    `events` are the room's events, each behind those that it names, and `state` the ids of those that hold in the state. Refused: NOT_UTF8 where
+    `own` is not; of the servers NOT_JSON, BAD_SERVERS; of the events NOT_JSON, NOT_CANONICAL, BAD_EVENTS; of the state NOT_JSON, BAD_STATE.
     """
-    return json.loads(_answer(_destinations, *_slices(_array(events), _texts(state), _texts(servers), own)))
+    return json.loads(_answer(_destinations, *_slices(_array(events), _items(state), _items(servers), _text(own))))
 
 
-def resolve(events: typing.Iterable[Text], states: typing.Iterable[typing.Iterable[str]], rejected: typing.Iterable[str] = ()) -> typing.List[str]:
+def resolve(events: typing.Iterable[Value], states: typing.Iterable[typing.Iterable[str]], rejected: typing.Iterable[str] = ()) -> typing.List[str]:
     """The ids of the events of the state that several states of a room resolve to, in the order of their types and state keys.
 
     `events` are the room's events, each behind those that it names, `rejected` the ids of those that were rejected, and each state has the ids
-    of its events. Refused: NOT_JSON, NOT_CANONICAL, BAD_EVENTS, BAD_STATE.
+    of its events. Refused: of the rejected ones NOT_JSON, BAD_IDS; of the events NOT_JSON, NOT_CANONICAL, BAD_EVENTS; of the states NOT_JSON,
+    BAD_STATE.
     """
-    states = json.dumps([list(state) for state in states])
-    return json.loads(_answer(_resolve, *_slices(_array(events), _texts(rejected), states)))
+    return json.loads(_answer(_resolve, *_slices(_array(events), _items(rejected), [_items(state) for state in _items(states)])))
+
+
+def _rule(numbers):
+    return Rule(*numbers) if numbers else None
 
 
 def _slices(*texts):
-    """Each text and its length."""
+    """Each text, or that of each value, and its length."""
     slices = []
     for text in texts:
         text = _bytes(text)
@@ -372,10 +454,13 @@ def _slices(*texts):
 
 
 def _array(values):
-    """The text of an array of the values of these JSON texts. Each is read first, so that none stands for two or for a half."""
-    return b"[%s]" % b",".join(map(canonical, values))
-
-
-def _texts(texts):
-    """The JSON text of an array of texts."""
-    return json.dumps(list(texts), ensure_ascii=False)
+    """The text of an array of values; no JSON where one is none. Each is read first, so that no text stands for two values or for a half."""
+    texts = []
+    for value in _items(values):
+        try:
+            texts.append(canonical(value))
+        except Refused as refused:
+            if refused.status == Status.NOT_JSON:
+                return b"["
+            texts.append(_bytes(value))
+    return b"[%s]" % b",".join(texts)

@@ -4,9 +4,10 @@
     tests/library.py [--built]
 
 With --built it takes what c/build.sh left. It compares every line of the vectors (crates/fed_vectors) that one of the library's calls
-answers; the answers of whole buffers, of ones a byte short and of empty ones; what a refused call leaves; texts with null bytes, and of
-16 MB; eight threads at once; the numbers of wikzord.h with those of wikzord.py; the C example, where valgrind is
-on the machine under it too; and each of its allocations refused in turn.
+answers; the answers of whole buffers, of ones a byte short and of empty ones; what a refused call leaves; the auth events of an event; values in
+place of texts, and what the module refuses itself; texts with null bytes, and of 16 MB; eight threads at once; the numbers of wikzord.h with those
+of wikzord.py; what c/install.sh and pip install; the C example, where valgrind is on the machine under it too; each of its allocations refused in
+turn; and, where signedjson is installed, tests/receipt.py.
 
 Prints `N passed, M failed`, and ends with status 1 where one failed.
 """
@@ -157,13 +158,23 @@ def events_and_ids(call):
     return events, [wikzord.event_id(event) for event in events]
 
 
+def holding(call, places):
+    """Those of these places that hold: state events, and of two at one type and state key, which the library refuses, the later one."""
+    held = {}
+    for place in places:
+        event = call["graph"][place]["event"]
+        if "state_key" in event:
+            held[event["type"], event["state_key"]] = place
+    return list(held.values())
+
+
 def allowed_answer(call, wanted):
-    """The keys of the lines trust every signature. A later event holds in the place of an earlier one, so the last ones come first. That a create event is
-    not the first of its room, where the state has none, is not for this library."""
+    """The keys of the lines trust every signature. That a create event is not the first of its room, where the state has none, is not for this
+    library."""
     events, _ = events_and_ids(call)
     if call["event"].get("type") == "m.room.create" and events and 0 not in call["state"]:
         return wanted
-    rule = wikzord.allowed(text(call["event"]), [events[place] for place in reversed(call["state"])], authorised=True)
+    rule = wikzord.allowed(text(call["event"]), [events[place] for place in holding(call, call["state"])], authorised=True)
     return {"error": str(rule)} if rule else {"ok": None}
 
 
@@ -174,7 +185,7 @@ def resolution_answer(call, wanted):
     answers = list(wanted["ok"])
     for number, operation in enumerate(call["operations"]):
         if list(operation) == ["resolve"]:
-            states = [[ids[place] for place in state] for state in operation["resolve"]]
+            states = [[ids[place] for place in holding(call, state)] for state in operation["resolve"]]
             answers[number] = [ids.index(event_id) for event_id in wikzord.resolve(events, states, rejected)]
     return {"ok": answers}
 
@@ -184,7 +195,7 @@ def destinations_answer(call, wanted):
     if wanted.get("error") == "a server is listed twice":
         return wanted
     events, ids = events_and_ids(call)
-    state = [ids[place] for place in call["state"]]
+    state = [ids[place] for place in holding(call, call["state"])]
     servers = sorted(call["servers"])
     return answered(lambda: {
         "destinations": wikzord.destinations(events, state, servers, call["own"]),
@@ -300,10 +311,16 @@ def room_functions():
     mine, other = text(event_of(1)[0]), text(event_of(1, sender="@v:a.example")[0])
     unsigned = text(event_of(1, signatures={})[0])
     wrong_events = [b"{}", b"[5]", b"[{}]", text([join]), text([create, create]), text([create | {"signatures": {}}])]
-    wrong_states = [b"{}", b"[5]", b'["$x"]', text([wikzord.event_id(other)])]
+    wrong_states = [b"{}", b"null", b"[5]", b'["$x"]', text([wikzord.event_id(other)]), text([create_id, join_id, create_id])]
+    wrong_ids = [b"{}", b"null", b"7", b'"x"', b'{"$id":true}', b"[7]", b"[null]", b'[["$x"]]', b'["$x",{}]', b"true"]
+    rejoin = event_of(7, type="m.room.member", state_key="@u:a.example", content={"membership": "join", "n": 7})[0]
     return [
         ("allowed", wikzord._allowed, (*slices(mine, events), no), b"", [
-            *(((*slices(mine, wrong), no), refused.BAD_EVENTS) for wrong in (b"{}", b"[5]", b"[{}]", text([create, 5]), text([create | {"signatures": {}}]))),
+            *(((*slices(mine, wrong), no), refused.BAD_EVENTS)
+                for wrong in (b"{}", b"[5]", b"[{}]", text([create, 5]), text([create | {"signatures": {}}]))),
+            *(((*slices(mine, wrong), no), refused.BAD_STATE)
+                for wrong in (text([create, create]), text([join, create, rejoin]), text([create, join, json.loads(other)]))),
+            ((*slices(mine, text([create, create, 5])), no), refused.BAD_EVENTS), ((*slices(b"{}", text([create, create])), no), refused.BAD_STATE),
             ((*slices(mine, b"["), no), refused.NOT_JSON), ((*slices(mine, b"[1.5]"), no), refused.NOT_CANONICAL),
             ((*slices(b"{}", events), no), refused.MISSING_FIELD), ((*slices(unsigned, events), no), refused.NOT_SIGNED)]),
         ("allowed of an event of one who is not joined", wikzord._allowed, (*slices(other, events), yes), bytes([5, 0, 0]), []),
@@ -318,16 +335,65 @@ def room_functions():
         ("resolve", wikzord._resolve, slices(events, b"[]", b"[%s,%s]" % (state, state)), text([create_id, join_id]), [
             *((slices(wrong, b"[]", b"[]"), refused.BAD_EVENTS) for wrong in wrong_events),
             *((slices(events, b"[]", b"[%s]" % wrong), refused.BAD_STATE) for wrong in wrong_states),
+            *((slices(b"[5]", wrong, b"5"), refused.BAD_IDS) for wrong in wrong_ids),
+            (slices(b"[5]", b"[1.5]", b"5"), refused.NOT_CANONICAL), (slices(b"[5]", b"[]", b"5"), refused.BAD_EVENTS),
             (slices(events, b"[]", state), refused.BAD_STATE), (slices(events, b"", b"[]"), refused.NOT_JSON)]),
         ("resolve of no states", wikzord._resolve, slices(b"[]", b"[]", b"[]"), b"[]", []),
+        ("resolve where others were rejected", wikzord._resolve, slices(events, b'["$x"]', b"[%s]" % state), text([create_id, join_id]), []),
+        *auth_functions(create, join, create_id, join_id, wrong_ids),
     ]
+
+
+def auth_functions(create, join, create_id, join_id, wrong_ids):
+    """The call on the auth events of an event, as `try_buffers` tries it: each condition of rule 2, and the faults in their order."""
+    refused, no, call = wikzord.Status, ctypes.c_bool(False), wikzord._allowed_by_auth_events
+    both, mine = text([join, create]), event_of(1, auth_events=[create_id, join_id])[0]
+    levels = event_of(2, type="m.room.power_levels", state_key="", content={"users": {"@u:a.example": 100}})[0]
+    topic = event_of(3, type="m.room.topic", state_key="", content={"topic": "t"})[0]
+    other = event_of(0, type="m.room.create", state_key="", content=create["content"], room_id="!s:a.example")[0]
+    given = text([topic, other, levels, join, create])
+    levels_id, topic_id, other_id = map(wikzord.event_id, map(text, (levels, topic, other)))
+
+    def naming(*ids, **fields):
+        return text(event_of(1, auth_events=list(ids), **fields)[0])
+
+    refusals = [
+        *(((*slices(b"{}", b"[5]", wrong), no), refused.BAD_IDS) for wrong in wrong_ids),
+        ((*slices(b"{}", b"[5]", b"["), no), refused.NOT_JSON), ((*slices(b"{}", b"[5]", b"[1.5]"), no), refused.NOT_CANONICAL),
+        *(((*slices(b"{}", wrong, b"[]"), no), refused.BAD_EVENTS)
+            for wrong in (b"{}", b"null", b"[5]", b"[{}]", text([create | {"signatures": {}}]))),
+        ((*slices(b"{}", b"[", b"[]"), no), refused.NOT_JSON), ((*slices(b"{}", b"[1.5]", b"[]"), no), refused.NOT_CANONICAL),
+        ((*slices(b"{}", b"[]", b"[]"), no), refused.MISSING_FIELD),
+        ((*slices(naming(create_id, signatures={}), b"[]", b"[]"), no), refused.NOT_SIGNED),
+        ((*slices(text(mine), text([create]), b"[]"), no), refused.MISSING_EVENTS), ((*slices(text(mine), b"[]", b"[]"), no), refused.MISSING_EVENTS),
+    ]
+    lines = [
+        ("", text(mine), both, b"[]", b"", refusals),
+        ("where others are given and rejected", text(mine), given, text([topic_id, "$x"]), b"", []),
+        ("2.1", naming(create_id, join_id, create_id), given, b"[]", bytes([2, 1, 0]), []),
+        ("2.1 before 2.2", naming(topic_id, topic_id), given, b"[]", bytes([2, 1, 0]), []),
+        ("2.2", naming(topic_id), given, text([topic_id]), bytes([2, 2, 0]), []),
+        ("2.2 of a message", naming(wikzord.event_id(text(mine)), create_id), text([mine, create]), b"[]", bytes([2, 2, 0]), []),
+        ("2.3", naming(join_id), given, text(["$x", join_id]), bytes([2, 3, 0]), []),
+        ("2.4", naming(join_id), given, b"[]", bytes([2, 4, 0]), []),
+        ("2.4 of none", naming(), b"[]", b"[]", bytes([2, 4, 0]), []),
+        ("2.5", naming(other_id, join_id), given, b"[]", bytes([2, 5, 0]), []),
+        ("without a join", naming(create_id, levels_id), given, b"[]", bytes([5, 0, 0]), []),
+        ("of a level", naming(create_id, join_id, levels_id, type="m.room.topic", state_key="", content={}), given, b"[]", b"", []),
+        ("of a create event", text(create), b"[]", b"[]", b"", []),
+        ("of a create event with a prev event", text(event_of(
+            0, type="m.room.create", state_key="", content=create["content"], prev_events=["$x"])[0]), b"[]", b"[]", bytes([1, 1, 0]), []),
+    ]
+    return [
+        (f"allowed_by_auth_events {name}", call, (*slices(event, auth, rejected), no), answer, wrong)
+        for name, event, auth, rejected, answer, wrong in lines]
 
 
 def try_buffers():
     event, event_id = event_of(1)
     event = text(event)
     bad = b'{"a":1.5}'
-    request = (b"PUT", b"/x", b"a", b"b", b"{}")
+    request = (b"PUT", b"/x", b"a", b"b", b' {"b":\t1,\r\n"a":"\\u00e9","b":[{"d":0,"c":0}]} ')
     refused, levels = wikzord.Status, ctypes.c_size_t
     functions = [
         ("canonical", wikzord._canonical, (*slices(event), levels(127)), event, [((*slices(b"["), levels(127)), refused.NOT_JSON),
@@ -352,8 +418,14 @@ def try_buffers():
         ("transaction_error", wikzord._transaction_error, slices(b"[]"), b"bad field: body", []),
         ("transaction_error of a transaction", wikzord._transaction_error, slices(b'{"origin":"a","origin_server_ts":1,"pdus":[]}'), b"", []),
         ("request_text", wikzord._request_text, slices(*request),
-            b'{"content":{},"destination":"b","method":"PUT","origin":"a","uri":"/x"}',
-            [(slices(*request[:place], b"\xff", *request[place + 1:]), refused.NOT_UTF8) for place in range(4)]),
+            '{"content":{"a":"é","b":[{"c":0,"d":0}]},"destination":"b","method":"PUT","origin":"a","uri":"/x"}'.encode(), [
+            *((slices(*request[:place], b"\xff", *request[place + 1:4], b"{"), refused.NOT_UTF8) for place in range(4)),
+            *((slices(*request[:4], wrong), refused.NOT_JSON) for wrong in (b" ", b"{", b"{}{}", b"\xff", b"\0", b"[" * 128 + b"]" * 128)),
+            *((slices(*request[:4], wrong), refused.NOT_CANONICAL) for wrong in (b"1.0", b'{"a":9007199254740992}', b"[1e2]", b"-0"))]),
+        ("request_text of 127 levels", wikzord._request_text, slices(*request[:4], b"[ " * 127 + b"]" * 127),
+            b'{"content":' + b"[" * 127 + b"]" * 127 + b',"destination":"b","method":"PUT","origin":"a","uri":"/x"}', []),
+        ("request_text without a body", wikzord._request_text, slices(*request[:4], b""),
+            b'{"destination":"b","method":"PUT","origin":"a","uri":"/x"}', []),
         ("auth_selection", wikzord._auth_selection, slices(event),
             b'[["m.room.create",""],["m.room.power_levels",""],["m.room.member","@u:a.example"]]',
             [(slices(b"{}"), refused.MISSING_FIELD), (slices(b"5"), refused.WRONG_KIND), (slices(bad), refused.NOT_CANONICAL)]),
@@ -435,8 +507,15 @@ def try_rooms():
     check("a join that is authorised by a server whose signature has not checked", wikzord.allowed(text(named), events), rule(4, 2, 0))
     check("the same where it has", wikzord.allowed(text(named), events, True), rule(4, 3, 7))
     leave = event_of(2, type="m.room.member", state_key="@u:a.example", content={"membership": "leave"})[0]
-    check("of two memberships the first counts", wikzord.allowed(text(event_of(1)[0]), [text(leave), *events]), rule(5, 0, 0))
-    check("and here it is the join", wikzord.allowed(text(event_of(1)[0]), [*events, text(leave)]), None)
+    check("a state of a leave", wikzord.allowed(text(event_of(1)[0]), [text(create), text(leave)]), rule(5, 0, 0))
+    # (one rule of all calls: two events at one type and state key are no state)
+    bad_state = {"error": "bad state"}
+    room, leave_id = [*events, text(leave)], wikzord.event_id(text(leave))
+    check("two memberships of one user", answered(lambda: wikzord.allowed(text(event_of(1)[0]), room)), bad_state)
+    check("the same in another order", answered(lambda: wikzord.allowed(text(event_of(1)[0]), room[::-1])), bad_state)
+    check("two memberships in a state that resolves", answered(lambda: wikzord.resolve(room, [state, [*state, leave_id]])), bad_state)
+    check("two memberships where servers are asked for", answered(lambda: wikzord.destinations(room, [*state, leave_id], [], "")), bad_state)
+    check("one membership or the other", wikzord.destinations(room, [create_id, leave_id], ["a.example"], ""), [])
     changed = event_of(3, type="m.room.member", state_key="@u:a.example", content={"membership": "join", "n": 1})[0]
     check("a redacted join is one", wikzord.allowed(text(event_of(1)[0]), [text(create), text(changed | {"content": {"membership": "join"}})]), None)
     another = event_of(0, type="m.room.create", state_key="", content=create["content"], origin_server_ts=2)[0]
@@ -445,6 +524,89 @@ def try_rooms():
     check("the text of a rule", [str(rule(4, 3, 7)), str(rule(4, 2, 0)), str(rule(5, 0, 0))], ["4.3.7", "4.2", "5"])
     check("two events in one text are none", answered(lambda: wikzord.resolve([text(create) + b"," + text(join)], [])), {"error": "not json"})
     check("a rejected event stays where all states agree", wikzord.resolve(events, [state, state], [join_id]), [create_id, join_id])
+
+
+# ---- values in place of texts, and what the module refuses itself
+
+
+def raised(function):
+    """The kind of what a call raises."""
+    try:
+        function()
+    except Exception as e:
+        return type(e)
+
+
+def try_values():
+    event, event_id = event_of(1)
+    spaced = json.dumps(event, indent=1)
+    for name, value in (("a dict", event), ("a spaced str", spaced), ("bytes", spaced.encode()), ("a bytearray", bytearray(spaced.encode())),
+            ("a memoryview", memoryview(text(event)))):
+        check(f"the canonical text of {name}", wikzord.canonical(value), text(event))
+        check(f"the ids of {name}", (wikzord.event_id(value), wikzord.event_ids([value, value])), (event_id, [event_id] * 2))
+        check(f"the test of {name}", wikzord.event_fault(value), None)
+        check(f"the content of {name}", wikzord.request_text("PUT", "/", "a", "b", value),
+            b'{"content":%s,"destination":"b","method":"PUT","origin":"a","uri":"/"}' % text(event))
+    check("a list", wikzord.canonical([{"b": "é", "a": [True, None, -1]}]), '[{"a":[true,null,-1],"b":"é"}]'.encode())
+    check("an empty list and an empty dict", (wikzord.canonical([]), wikzord.canonical({})), (b"[]", b"{}"))
+    check("an empty dict is a content", wikzord.request_text("PUT", "/", "a", "b", {}),
+        b'{"content":{},"destination":"b","method":"PUT","origin":"a","uri":"/"}')
+    check("a transaction as a dict", wikzord.transaction_fault({"origin": "a", "origin_server_ts": 1, "pdus": []}), None)
+    create, join, create_id, join_id = small_room()
+    check("a room of dicts", wikzord.resolve([create, join], [[create_id, join_id]]), [create_id, join_id])
+    check("a state of dicts and texts", wikzord.allowed(event, iter([create, text(join)])), None)
+    named = event_of(1, auth_events=[create_id, join_id])[0]
+    check("auth events", wikzord.allowed_by_auth_events(named, [create, join]), None)
+    check("a rejected auth event", wikzord.allowed_by_auth_events(named, [create, join], {join_id}), wikzord.Rule(2, 3, 0))
+    missing = answered(lambda: wikzord.allowed_by_auth_events(named, [create]))
+    check("an auth event that is not there", missing, {"error": "missing events"})
+    check("a number that is no whole one", answered(lambda: wikzord.canonical([1.0])), {"error": "not canonical"})
+    check("no number", answered(lambda: wikzord.canonical([float("nan")])), {"error": "not json"})
+    for levels, wanted in ((127, {"ok": b"[" * 127 + b"]" * 127}), (128, {"error": "not json"}), (100_000, {"error": "not json"})):
+        deep = []
+        for _ in range(levels - 1):
+            deep = [deep]
+        check(f"a list of {levels} levels", answered(lambda: wikzord.canonical(deep)), wanted)
+        while deep:
+            deep = deep.pop()
+
+
+def try_refusals():
+    """Lone surrogates, of which UTF-8 has none, and arguments of another kind."""
+    lone, (event, _) = "\ud800", event_of(1)
+    not_json, not_utf8 = {"error": "not json"}, {"error": "not utf8"}
+    for name, value in (("a text", f'"{lone}"'), ("a list", [lone]), ("a key", {lone: 1}), ("two halves", '"\ud83d\ude00"')):
+        check(f"a lone surrogate in {name}", answered(lambda: wikzord.canonical(value)), not_json)
+    check("an escaped one", answered(lambda: wikzord.canonical('"\\ud800"')), not_json)
+    check("one in an event", wikzord.event_fault(event | {"type": lone}), (wikzord.Status.NOT_JSON, None, "not json"))
+    check("one in one of several events", answered(lambda: wikzord.event_ids([event, {"x": lone}])), not_json)
+    for place in range(4):
+        texts = ["PUT", "/", "a", "b"]
+        texts[place] = lone
+        check(f"one in text {place} of a request", answered(lambda: wikzord.request_text(*texts, b"{")), not_utf8)
+    check("one in a content", answered(lambda: wikzord.request_text("PUT", "/", "a", "b", {"x": lone})), not_json)
+    check("one in a header", answered(lambda: wikzord.x_matrix(lone)), not_utf8)
+    check("one in a name of a header", answered(lambda: wikzord.x_matrix_header(wikzord.XMatrix("a", lone, "k", bytes(3)))), not_utf8)
+    check("one in a verdict", answered(lambda: wikzord.reply({"$a": lone})), not_json)
+    check("one in a state", answered(lambda: wikzord.allowed(event, [{"x": lone}])), not_json)
+    check("one in rejected ids", answered(lambda: wikzord.resolve([], [], [lone])), not_json)
+    check("one in a state's ids", answered(lambda: wikzord.resolve([], [[lone]])), not_json)
+    check("one in the name of a server", answered(lambda: wikzord.destinations([], [], [lone], "a")), not_json)
+    check("one in the own name", answered(lambda: wikzord.destinations([], [], [], lone)), not_utf8)
+    # (the first fault in the order of the header, wherever the module sees it)
+    check("rejected ones before events", answered(lambda: wikzord.resolve([b"{"], [[5]], [5])), {"error": "bad ids"})
+    check("events before states", answered(lambda: wikzord.resolve([b"5"], [[5]])), {"error": "bad events"})
+    check("no JSON before no whole numbers", answered(lambda: wikzord.allowed(b"{", [b"1.5", b"{"])), not_json)
+    check("no whole numbers before no events", answered(lambda: wikzord.allowed(b"{", [b"1.5", b"5"])), {"error": "not canonical"})
+    check("rejected ids of another kind", answered(lambda: wikzord.resolve([], [], [None])), {"error": "bad ids"})
+    for name, value in (("a number", 7), ("None", None), ("a float", 1.5)):
+        calls = (wikzord.canonical, wikzord.event_id, wikzord.x_matrix)
+        check(f"{name} is no text", [raised(lambda: call(value)) for call in calls], [TypeError] * 3)
+    for name, value in (("a str", "$x"), ("bytes", b"[]"), ("a dict", {"$x": True}), ("None", None)):
+        check(f"{name} is no list", [raised(call) for call in (
+            lambda: wikzord.resolve([], [], value), lambda: wikzord.resolve([], value), lambda: wikzord.resolve(value, []),
+            lambda: wikzord.allowed(event, value), lambda: wikzord.destinations([], [], value, "a"), lambda: wikzord.event_ids(value),
+            lambda: wikzord.allowed_by_auth_events(event, value), lambda: wikzord.allowed_by_auth_events(event, [], value))], [TypeError] * 8)
 
 
 # ---- null bytes, large texts, threads
@@ -456,8 +618,7 @@ def try_null_bytes():
     check("a null character", wikzord.canonical(b'"\\u0000"'), b'"\\u0000"')
     check("a null byte in a target", wikzord.request_text("GET", b"/\0", "a", "b"),
         b'{"destination":"b","method":"GET","origin":"a","uri":"/\\u0000"}')
-    check("a null byte in a body", wikzord.request_text("PUT", "/", "a", "b", b"\0"),
-        b'{"content":\0,"destination":"b","method":"PUT","origin":"a","uri":"/"}')
+    check("a null byte in a body", answered(lambda: wikzord.request_text("PUT", "/", "a", "b", b"\0")), {"error": "not json"})
 
 
 def try_large():
@@ -501,6 +662,10 @@ def try_header():
         prefix = "WIKZORD_" if name == "status" else f"WIKZORD_{name.upper()}_"
         found = {word.removeprefix(prefix): int(number) for word, number in re.findall(r"(WIKZORD_\w+) = (\d+)", body)}
         check(f"the numbers of wikzord_{name}", {it.name: it.value for it in values}, found)
+    version = int(re.search(r"^#define WIKZORD_VERSION (\d+)$", header, re.M)[1])
+    check("the number of the interface", (wikzord._library.wikzord_version(), wikzord.VERSION), (version, version))
+    public = {name for name, value in vars(wikzord).items() if getattr(value, "__module__", None) == "wikzord" and not name.startswith("_")}
+    check("the names of the module", set(wikzord.__all__), public | {"VERSION"})
     declared = set(re.findall(r"^uint32_t (wikzord_\w+)\(", header, re.M))
     sources = "".join(path.read_text() for path in (ROOT / "crates" / "fed_c" / "src").glob("*.rt"))
     exported = set(re.findall(r'pub extern "C" fn (wikzord_\w+)\(', sources))
@@ -527,6 +692,79 @@ def try_example():
         ]:
             done = subprocess.run(command, input=given, capture_output=True)
             check(f"{name}: {given[:60]}", (done.returncode, done.stdout.decode(), done.stderr.decode()), (*wanted, ""))
+
+
+# ---- what is loaded and installed
+
+# Where no `rt` is found, so that nothing is built.
+PLAIN = os.environ | {"PATH": "/usr/bin:/bin", "PYTHONDONTWRITEBYTECODE": "1"}
+
+
+def python(command, environment, folder=C):
+    done = subprocess.run([sys.executable, "-c", command], capture_output=True, text=True, env=PLAIN | environment, cwd=folder)
+    return done.returncode, done.stdout.strip(), done.stderr.strip().rpartition("\n")[2]
+
+
+def try_loading():
+    """Libraries that are not the one that the module is for."""
+    with tempfile.TemporaryDirectory() as room:
+        for name, source in (("none", ""), ("another", "unsigned wikzord_version(void) { return 4711; }")):
+            (pathlib.Path(room) / f"{name}.c").write_text(source)
+            subprocess.run(["cc", "-shared", "-o", f"{room}/{name}.so", f"{room}/{name}.c"], check=True)
+        (pathlib.Path(room) / "text.so").write_text("no library")
+        for name, words in [
+            ("missing", [f"there is no library {room}/missing.so", "c/build.sh makes it"]),
+            ("text", [f"the library {room}/text.so can't be loaded", "c/build.sh makes one"]),
+            ("none", [f"the library {room}/none.so has no number", f"is for interface {wikzord.VERSION}", "make it again by c/build.sh"]),
+            ("another", [f"the library {room}/another.so has interface 4711", "make it again by c/build.sh"]),
+        ]:
+            status, _, error = python("import wikzord", {"WIKZORD_LIBRARY": f"{room}/{name}.so"})
+            unsaid = [it for it in words if it not in error]
+            check(f"a library that is {name}", (status, error.startswith("ImportError: wikzord: "), unsaid), (1, True, []))
+
+
+def try_install():
+    """What c/install.sh leaves, by pkg-config where that is there, and what pip installs, where that is there."""
+    event, event_id = event_of(7)
+    with tempfile.TemporaryDirectory() as room:
+        done = subprocess.run([C / "install.sh", room], capture_output=True, text=True, env=PLAIN)
+        files = ["include/wikzord.h", "lib/libwikzord.a", "lib/libwikzord.so", "lib/pkgconfig/wikzord.pc"]
+        check("c/install.sh", (done.returncode, done.stdout, done.stderr), (0, f"{room}: {' '.join(files)}\n", ""))
+        check("what it leaves", sorted(str(it.relative_to(room)) for it in pathlib.Path(room).rglob("*") if it.is_file()), files)
+        if shutil.which("pkg-config"):
+            asked = ["pkg-config", "--cflags", "--libs", "--print-errors", "wikzord"]
+            flags = subprocess.run(asked, capture_output=True, text=True, check=True, env=PLAIN | {"PKG_CONFIG_PATH": f"{room}/lib/pkgconfig"}).stdout
+            subprocess.run(["cc", "-std=c99", "-o", f"{room}/example", C / "example.c", *flags.split()], check=True)
+            ran = subprocess.run([f"{room}/example"], input=text(event), capture_output=True, env=PLAIN | {"LD_LIBRARY_PATH": f"{room}/lib"})
+            check("the example by pkg-config", ran.stdout.decode(), f"{event_id}\npasses\n")
+        else:
+            print("no pkg-config on this machine: the example was not made by it")
+        check("c/install.sh without a folder", subprocess.run([C / "install.sh"], capture_output=True, env=PLAIN).returncode, 2)
+    if subprocess.run([sys.executable, "-m", "pip", "--version"], capture_output=True).returncode:
+        print("no pip on this machine: the package was not installed")
+        return
+    with tempfile.TemporaryDirectory() as room:
+        options = ["--quiet", "--no-index", "--no-compile", "--disable-pip-version-check", "--target", room]
+        done = subprocess.run([sys.executable, "-m", "pip", "install", *options, C], capture_output=True, text=True, env=PLAIN)
+        check("pip install ./c", (done.returncode, done.stderr.replace("\n", " ") if done.returncode else ""), (0, ""))
+        packed = sorted(it.name for it in (pathlib.Path(room) / "wikzord").iterdir())
+        check("what it installs", packed, ["__init__.py", "libwikzord.so", "py.typed"])
+        ask = "import sys, wikzord; print(wikzord.__file__, wikzord.event_id(sys.argv[1]))".replace("sys.argv[1]", repr(text(event)))
+        check("the package", python(ask, {"PYTHONPATH": room}, room), (0, f"{room}/wikzord/__init__.py {event_id}", ""))
+        bare = pathlib.Path(room) / "c"
+        shutil.copytree(C, bare, ignore=shutil.ignore_patterns("out"))
+        status, _, error = python(f"import build_wheel; build_wheel.build_wheel({room!r})", {}, bare)
+        check("a package without the library", (status, "there is no library" in error and "c/build.sh" in error), (1, True))
+
+
+def try_receipt():
+    """The checks on receipt with signatures by signedjson."""
+    if subprocess.run([sys.executable, "-c", "import signedjson.sign"], capture_output=True).returncode:
+        print("no signedjson on this machine: tests/receipt.py was not run")
+        return
+    done = subprocess.run([sys.executable, ROOT / "tests" / "receipt.py"], capture_output=True, text=True)
+    check("tests/receipt.py", (done.returncode, done.stdout.endswith(" passed, 0 failed\n"), done.stderr), (0, True, ""))
+    print(f"tests/receipt.py: {done.stdout.strip()}")
 
 
 def try_refused_memory():
@@ -556,7 +794,10 @@ if not failed:
     sys.path.insert(0, str(C))
     import wikzord
 
-    for part in (try_vectors, try_buffers, try_numbers, try_rooms, try_null_bytes, try_large, try_many, try_threads, try_header, try_example, try_refused_memory):
+    parts = (
+        try_vectors, try_buffers, try_numbers, try_rooms, try_values, try_refusals, try_null_bytes, try_large, try_many, try_threads, try_header,
+        try_loading, try_install, try_example, try_refused_memory, try_receipt)
+    for part in parts:
         part()
 print(f"{passed} passed, {failed} failed")
 sys.exit(1 if failed else 0)

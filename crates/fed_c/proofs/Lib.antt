@@ -4,6 +4,8 @@ pub mod EnteredVerdicts
 pub mod ListedItems
 pub mod Histories
 pub mod StateEvents
+pub mod StoredEvents
+pub mod LaidEvents
 pub mod StatesMade
 pub mod Rooms
 pub mod WrittenHeaders

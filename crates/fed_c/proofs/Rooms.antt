@@ -11,6 +11,7 @@ use Rattle.fed_resolve.specs.Resolution.{resolved_of}
 use Rattle.fed_c.specs.declared.status.Status.{Status}
 use Rattle.fed_c.specs.Results.{and_then}
 use Rattle.fed_c.specs.ListParts.{with_items}
+use Rattle.fed_c.specs.Ids.{ids_in}
 use Rattle.fed_c.specs.History.{history_in}
 use Rattle.fed_c.specs.States.{states_in}
 use Rattle.fed_c.specs.Resolution.{ids_value, resolved_answer}
@@ -34,17 +35,17 @@ module _ (events rejected states : Result Data Status) where
   by_rejected ids = and_then (history_in ids events) by_history
 
   pub resolved_gives : (ids : Data) (stored : List Stored) (held : List StateMap)
-      → rejected ≡ Ok ids → history_in ids events ≡ Ok stored → and_then states (states_in stored) ≡ Ok held
+      → and_then rejected ids_in ≡ Ok ids → history_in ids events ≡ Ok stored → and_then states (states_in stored) ≡ Ok held
       → resolved_answer events rejected states ≡ Ok (canonical_text (ids_value (resolved_of stored held)))
   resolved_gives ids stored held r e s = then_ok _ ids by_rejected r ∙ then_ok _ stored by_history e ∙ then_ok _ held (by_states stored) s
 
-  pub resolved_no_ids : (why : Status) → rejected ≡ Err why → resolved_answer events rejected states ≡ Err why
+  pub resolved_no_ids : (why : Status) → and_then rejected ids_in ≡ Err why → resolved_answer events rejected states ≡ Err why
   resolved_no_ids why r = then_err _ why by_rejected r
 
-  pub resolved_no_events : (ids : Data) (why : Status) → rejected ≡ Ok ids → history_in ids events ≡ Err why → resolved_answer events rejected states ≡ Err why
+  pub resolved_no_events : (ids : Data) (why : Status) → and_then rejected ids_in ≡ Ok ids → history_in ids events ≡ Err why → resolved_answer events rejected states ≡ Err why
   resolved_no_events ids why r e = then_ok _ ids by_rejected r ∙ then_err _ why by_history e
 
-  pub resolved_no_states : (ids : Data) (stored : List Stored) (why : Status) → rejected ≡ Ok ids → history_in ids events ≡ Ok stored
+  pub resolved_no_states : (ids : Data) (stored : List Stored) (why : Status) → and_then rejected ids_in ≡ Ok ids → history_in ids events ≡ Ok stored
       → and_then states (states_in stored) ≡ Err why → resolved_answer events rejected states ≡ Err why
   resolved_no_states ids stored why r e s = then_ok _ ids by_rejected r ∙ then_ok _ stored by_history e ∙ then_err _ why (by_states stored) s
 

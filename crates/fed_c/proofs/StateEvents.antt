@@ -1,9 +1,8 @@
 -- Events of a state that are added one after another are those of all values at once.
-use Rattle.std.proofs.Common.{◌≡◌, List, [], ◌∷◌, ◌++◌, map, Bool, true, false, if◌then◌else◌, Result, Ok, Err, refl, sym, ap, ◌∙◌, append_assoc}
+use Rattle.std.proofs.Common.{◌≡◌, List, [], ◌∷◌, ◌++◌, map, Bool, true, false, if◌then◌else◌, Ok, Err, refl, sym, ap, ◌∙◌, append_assoc}
 use Rattle.std.proofs.lemmas.List.{append-nil}
 use Rattle.std.specs.List.{list_all}
 use Rattle.serde_json.specs.Data.{Data}
-use Rattle.fed_c.specs.declared.status.Status.{Status}
 use Rattle.fed_c.specs.declared.status.Status.TheVariants.{BadEvents}
 use Rattle.fed_c.specs.History.{is_event, taken}
 use Rattle.fed_c.specs.StateEvents.{state_events_of}

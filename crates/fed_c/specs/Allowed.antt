@@ -6,6 +6,7 @@ use Rattle.fed_auth.specs.Allowed.{allowed_by}
 use Rattle.fed_c.specs.declared.status.Status.{Status}
 use Rattle.fed_c.specs.Results.{and_then}
 use Rattle.fed_c.specs.StateEvents.{state_events_in}
+use Rattle.fed_c.specs.States.{made_of}
 use Rattle.fed_c.specs.Signers.{checked_as}
 
 -- nothing where the event is allowed; else the three numbers of the rule that rejects it
@@ -16,4 +17,5 @@ rule_numbers (Err rule) = rule.section ∷ rule.condition ∷ rule.branch ∷ []
 -- by the events of the state, and the event
 abbrev pub allowed_answer : Result Data Status → Result Data Status → Bool → Result (List ℕ) Status
 allowed_answer state event authorised =
-    and_then (and_then state state_events_in) (λ held. and_then (and_then event (checked_as authorised)) (λ checked. Ok (rule_numbers (allowed_by held checked))))
+    and_then (and_then state state_events_in) (λ held. and_then (made_of held) (λ _. and_then (and_then event (checked_as authorised))
+    (λ checked. Ok (rule_numbers (allowed_by held checked)))))

@@ -1,4 +1,5 @@
 pub mod Status
+pub mod Version
 pub mod Output
 pub mod Values
 pub mod Results
@@ -13,6 +14,7 @@ pub mod Selection
 pub mod SelectionParts
 pub mod XMatrix
 pub mod XMatrixText
+pub mod Ids
 pub mod History
 pub mod HistoryParts
 pub mod States
@@ -20,7 +22,11 @@ pub mod StateParts
 pub mod Signers
 pub mod StateEvents
 pub mod StateEventsParts
+pub mod StoredEvents
+pub mod StoredEventsParts
+pub mod RuleTwo
 pub mod Allowed
+pub mod AuthEvents
 pub mod Resolution
 pub mod Destinations
 pub mod DestinationsParts

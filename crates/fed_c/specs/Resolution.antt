@@ -8,6 +8,7 @@ use Rattle.fed_room_contract.specs.State.{StateMap}
 use Rattle.fed_resolve.specs.Resolution.{resolved_of}
 use Rattle.fed_c.specs.declared.status.Status.{Status}
 use Rattle.fed_c.specs.Results.{and_then}
+use Rattle.fed_c.specs.Ids.{ids_in}
 use Rattle.fed_c.specs.History.{history_in}
 use Rattle.fed_c.specs.States.{states_in}
 
@@ -18,5 +19,5 @@ ids_value state = array (items_of (map (λ entry. string entry.1) (finite.entrie
 -- by the events of the room, those of them that are rejected, and the states
 abbrev pub resolved_answer : Result Data Status → Result Data Status → Result Data Status → Result (List ℕ) Status
 resolved_answer events rejected states =
-    and_then rejected (λ ids. and_then (history_in ids events) (λ stored. and_then (and_then states (states_in stored))
+    and_then (and_then rejected ids_in) (λ ids. and_then (history_in ids events) (λ stored. and_then (and_then states (states_in stored))
     (λ held. Ok (canonical_text (ids_value (resolved_of stored held))))))

@@ -1,30 +1,50 @@
 -- States of a room as JSON arrays of ids give them (Matrix, Server-Server API, "PDUs"; room version 2, "State resolution").
-use Rattle.std.specs.Prelude.{List, is_some, is_ok, if◌then◌else◌, Option, Some, None, option_and_then, Result, Ok, Err}
-use Rattle.std.specs.List.{list_all, filter_map}
+use Rattle.std.specs.Prelude.{List, [], ◌∷◌, Bool, false, not, ◌&&◌, ◌||◌, bytes_eq, is_some, is_ok, if◌then◌else◌, Option, option_map, option_and_then, Result, Ok, Err}
+use Rattle.std.specs.List.{list_any, list_all, filter_map}
+use Rattle.std.specs.Option.{option_eq}
 use Rattle.std.specs.Result.{result_ok}
 use Rattle.std.specs.FinMap as finite
 use Rattle.serde_json.specs.Data.{Data}
 use Rattle.serde_json.specs.Find.{as_str}
 use Rattle.fed_json.specs.JsonRef.{as_items}
+use Rattle.fed_redaction.specs.EventId.{event_id_of}
+use Rattle.fed_event.specs.Fields.{kind_of, state_key_of}
 use Rattle.fed_room_contract.specs.declared.graph.Stored.{Stored}
 use Rattle.fed_room_contract.specs.State.{StateMap}
 use Rattle.fed_room_contract.specs.Graph.{stored_at}
-use Rattle.fed_auth.specs.AuthState.{state_key_in, with_all}
+use Rattle.fed_auth.specs.AuthState.{with_id_at}
 use Rattle.fed_c.specs.declared.status.Status.{Status}
 use Rattle.fed_c.specs.declared.status.Status.TheVariants.{BadState}
 use Rattle.fed_c.specs.Results.{and_then, or_refusal}
 
-abbrev pub if_state_event : Stored → Option Stored
-if_state_event stored = if is_some (state_key_in stored) then Some stored else None
+-- of one type and state key
+abbrev pub are_alike : Data → Data → Bool
+are_alike one other = bytes_eq (kind_of one) (kind_of other) && option_eq bytes_eq (state_key_of one) (state_key_of other)
 
--- the state event that an id names
-abbrev pub state_event : List Stored → Data → Option Stored
-state_event events id = option_and_then if_state_event (option_and_then (stored_at events) (as_str id))
+abbrev pub has_double : List Data → Bool
+has_double [] = false
+has_double (one ∷ others) = list_any (are_alike one) others || has_double others
 
--- each holds at its type and state key, a later one in the place of an earlier one
+-- state events, no two of one type and state key
+abbrev pub is_state : List Data → Bool
+is_state events = list_all (λ event. is_some (state_key_of event)) events && not (has_double events)
+
+-- a state with these events
+abbrev pub with_events : StateMap → List Data → StateMap
+with_events state [] = state
+with_events state (event ∷ events) = with_events (with_id_at state (kind_of event) (state_key_of event) (event_id_of event)) events
+
+-- the state that events make
+abbrev pub made_of : List Data → Result StateMap Status
+made_of events = if is_state events then Ok (with_events finite.empty events) else Err BadState
+
+-- the event that an id names
+abbrev pub named : List Stored → Data → Option Data
+named events id = option_map (λ stored. stored.event.event) (option_and_then (stored_at events) (as_str id))
+
+-- the state of these ids, where each names an event
 abbrev pub state_of : List Stored → List Data → Result StateMap Status
-state_of events ids =
-    if list_all (λ id. is_some (state_event events id)) ids then Ok (with_all finite.empty (filter_map (state_event events) ids)) else Err BadState
+state_of events ids = if list_all (λ id. is_some (named events id)) ids then made_of (filter_map (named events) ids) else Err BadState
 
 abbrev pub state_in : List Stored → Data → Result StateMap Status
 state_in events value = and_then (or_refusal BadState (as_items value)) (state_of events)

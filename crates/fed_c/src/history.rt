@@ -90,8 +90,8 @@ fn store(alloc: Global, graph: &mut Graph, event: Checked, rejected: &Json) -> R
     Ok(graph.push(alloc, event, verdict)?)
 }
 
-// The verdict on the event of this id, where the rejected ones are listed.
-fn verdict_by(rejected: &Json, id: &str) -> Verdict
+/// The verdict on the event of this id, where the rejected ones are listed.
+pub(crate) fn verdict_by(rejected: &Json, id: &str) -> Verdict
     ensures { result ≡ verdict_by rejected.now id.now }
 {
     if is_listed(rejected, id) {

@@ -6,6 +6,7 @@
 //! between calls.
 //!
 //! - `status`: `Status`, how a call ends, and its number
+//! - `version`: the number of the interface
 //! - `output`: from an answer to the caller's buffer
 //! - `values`: from bytes to a JSON value
 //! - `texts`: texts made of a value: the canonical one, the redaction, the signed one, the event id and the content hash
@@ -17,29 +18,36 @@
 //! - `selection`: the keys of the auth events that an event has
 //! - `x_matrix`: what the Authorization field of a request says
 //! - `x_matrix_text`: that field, written
+//! - `ids`: the ids of events as an array gives them
 //! - `history`, `states`: the events of a room, and states of it, as arrays give them
 //! - `signers`: signatures that the caller has checked
 //! - `state_events`, `allowed`: the events of a state as an array gives them, and whether a room allows an event by them
+//! - `stored_events`, `rule_two`, `auth_events`: events with verdicts as an array gives them, rule 2 on auth events, and whether these allow an event
 //! - `destinations`: the servers that an event goes to
 //! - `resolution`: what several states of a room resolve to
 #![tactic(auto)]
 
 mod allowed;
+mod auth_events;
 mod destinations;
 mod events;
 mod history;
+mod ids;
 mod output;
 mod replies;
 mod requests;
 mod resolution;
+mod rule_two;
 mod selection;
 mod several;
 mod signers;
 mod state_events;
 mod states;
 mod status;
+mod stored_events;
 mod texts;
 mod transactions;
 mod values;
+mod version;
 mod x_matrix;
 mod x_matrix_text;

@@ -1,14 +1,16 @@
 //! What several states of a room resolve to.
-ghost use Rattle.std.specs.Prelude.{◌≡◌, ◌≢◌, Ok, Err, IfOk, IfErr};
+ghost use Rattle.std.specs.Prelude.{◌≡◌, ◌≢◌, false, Ok, Err, IfOk, IfErr};
+ghost use Rattle.serde_json.specs.Data.{Data};
+ghost use Rattle.fed_c.specs.Ids.{is_id_list};
 ghost use Rattle.fed_c.specs.Output.{Gives};
 ghost use Rattle.fed_c.specs.Resolution.{ids_value, resolved_answer};
 ghost use Rattle.fed_c.specs.Values.{value_of};
-ghost use Rattle.fed_c.specs.declared.status.Status.TheVariants.{Memory};
+ghost use Rattle.fed_c.specs.declared.status.Status.TheVariants.{Memory, BadIds};
 
 use crate::history::history;
+use crate::ids::ids;
 use crate::output::{Answer, give};
 use crate::states::states;
-use crate::values::value;
 use fed_json::{Json, NoMemory, canonical};
 use fed_resolve::resolve;
 use fed_room_contract::State;
@@ -17,10 +19,11 @@ use std::alloc::Global;
 /// The state that several states of a room resolve to (room version 2, "State resolution"): the canonical text of an array of the ids of its
 /// events, in the order of their types and, within a type, of their state keys.
 ///
-/// `events` is an array of the room's events, each behind those that it names; `rejected` one of the ids of those that were rejected; and
-/// `states` an array of states, each an array of the ids of its events.
+/// `events` is an array of the room's events, each behind those that it names; `rejected` one of the ids of those that were rejected, in which an
+/// id of none of `events` counts for nothing; and `states` an array of states, each an array of the ids of its events.
 ///
-/// Returns `NotJson` and `NotCanonical` where an array has no value; `BadEvents` and `BadState`.
+/// Returns the first of these faults: of `rejected`, `NotJson`, `NotCanonical` and `BadIds`; of `events`, `NotJson`, `NotCanonical` and
+/// `BadEvents`; of `states`, `NotJson`, `NotCanonical` and `BadState`.
 #[unsafe(no_mangle)]
 pub extern "C" fn wikzord_resolve(
     alloc: Global,
@@ -30,8 +33,10 @@ pub extern "C" fn wikzord_resolve(
     out: &mut [u8],
     needed: &mut usize,
 ) -> u32
-    ensures { Gives (resolved_answer (value_of events.now) (value_of rejected.now) (value_of states.now)) result
+    ensures gives { Gives (resolved_answer (value_of events.now) (value_of rejected.now) (value_of states.now)) result
         (record { before = out.old; after = out.new; told_before = needed.old; told = needed.new }) }
+    ensures no_ids { (value : Data) → value_of rejected.now ≡ Ok value → is_id_list value ≡ false
+        → Gives (Err BadIds) result (record { before = out.old; after = out.new; told_before = needed.old; told = needed.new }) }
 {
     give(resolved(alloc, events, rejected, states), out, needed)
 }
@@ -40,7 +45,7 @@ fn resolved(alloc: Global, events: &[u8], rejected: &[u8], given: &[u8]) -> Answ
     ensures ok { IfOk result (λ bytes. resolved_answer (value_of events.now) (value_of rejected.now) (value_of given.now) ≡ Ok bytes.items) }
     ensures fault { IfErr result (λ status. status ≢ Memory → resolved_answer (value_of events.now) (value_of rejected.now) (value_of given.now) ≡ Err status) }
 {
-    let rejected = value(alloc, rejected)?;
+    let rejected = ids(alloc, rejected)?;
     let graph = history(alloc, events, &rejected)?;
     let states = states(alloc, given, &graph)?;
     let state = resolve(alloc, &graph, &states)?;

@@ -3,14 +3,17 @@ ghost use Rattle.std.specs.Prelude.{◌≡◌, ◌≢◌, ◌∷◌, ◌++◌, [
 ghost use Rattle.fed_json.specs.Items.{left};
 ghost use Rattle.fed_c.specs.Results.{and_then};
 ghost use Rattle.fed_c.specs.StateEvents.{state_events_in, state_events_of};
+ghost use Rattle.fed_c.specs.States.{made_of};
 ghost use Rattle.fed_c.specs.Values.{value_of};
 ghost use Rattle.fed_c.specs.declared.status.Status.TheVariants.{Memory};
 
 use crate::history::event_in;
+use crate::states::lay;
 use crate::status::Status;
 use crate::values::value;
 use fed_event::{Checked, Pdu};
 use fed_json::{Items, NoMemory};
+use fed_room_contract::State;
 use std::alloc::Global;
 
 /// The events of an array, in their order; of one whose content hash does not fit, its redaction.
@@ -47,4 +50,20 @@ fn add(alloc: Global, events: &mut Vec<Pdu>, event: &Checked) -> Result<(), NoMe
 {
     events.push(event.event().copy(alloc)?)?;
     Ok(())
+}
+
+/// The state that these events make.
+///
+/// # Errors
+///
+/// `BadState` where one is no state event, or stands at the type and state key of another. `Memory` where memory ran out.
+pub(crate) fn made_of(alloc: Global, events: &[Pdu]) -> Result<State, Status>
+    ensures ok { IfOk result (λ state. made_of events.now ≡ Ok state) }
+    ensures fault { IfErr result (λ status. status ≢ Memory → made_of events.now ≡ Err status) }
+{
+    let mut state = State::new(alloc);
+    for event in events {
+        lay(alloc, &mut state, event)?;
+    }
+    Ok(state)
 }

@@ -3,23 +3,24 @@ ghost use Rattle.std.specs.Prelude.{◌≡◌, ◌≢◌, ◌∷◌, ◌++◌, [
 ghost use Rattle.fed_json.specs.Items.{left};
 ghost use Rattle.fed_json.specs.JsonRef.{seen};
 ghost use Rattle.fed_c.specs.Results.{and_then};
-ghost use Rattle.fed_c.specs.States.{state_event, state_in, state_of, states_in, states_of};
+ghost use Rattle.fed_c.specs.StateParts.{laid};
+ghost use Rattle.fed_c.specs.States.{named, state_in, state_of, states_in, states_of};
 ghost use Rattle.fed_c.specs.Values.{value_of};
 ghost use Rattle.fed_c.specs.declared.status.Status.TheVariants.{Memory};
 
 use crate::status::Status;
 use crate::values::value;
-use fed_auth::lay_over;
+use fed_event::Pdu;
 use fed_json::{Items, JsonRef, NoMemory};
-use fed_room_contract::{Graph, State, Stored};
+use fed_room_contract::{Graph, State};
 use std::alloc::Global;
 
-/// The state that the events of an array of ids make, each laid over those before it.
+/// The state that the events of an array of ids make.
 ///
 /// # Errors
 ///
-/// `NotJson` and `NotCanonical`; `BadState` where the value is no array of ids, or one of them is of no state event that is stored. `Memory`
-/// where memory ran out.
+/// `NotJson` and `NotCanonical`; `BadState` where the value is no array of ids, or one of them is of no state event that is stored, or of one
+/// at the type and state key of another. `Memory` where memory ran out.
 pub(crate) fn state(alloc: Global, ids: &[u8], graph: &Graph) -> Result<State, Status>
     ensures ok { IfOk result (λ state. and_then (value_of ids.now) (state_in graph.now.stored) ≡ Ok state) }
     ensures fault { IfErr result (λ status. status ≢ Memory → and_then (value_of ids.now) (state_in graph.now.stored) ≡ Err status) }
@@ -78,19 +79,33 @@ fn state_of(alloc: Global, ids: Items<'_>, graph: &Graph) -> Result<State, Statu
 {
     let mut state = State::new(alloc);
     for id in ids {
-        let stored = state_event(graph, id).ok_or(Status::BadState)?;
-        lay_over(alloc, &mut state, stored)?;
+        let event = named(graph, id).ok_or(Status::BadState)?;
+        lay(alloc, &mut state, event)?;
     }
     Ok(state)
 }
 
-// The state event that an id names.
-fn state_event<'a>(graph: &'a Graph, id: JsonRef<'_>) -> Option<&'a Stored>
-    ensures { option_map (λ stored. stored.now) result ≡ state_event graph.now.stored (seen id.entry) }
+// The event that an id names.
+fn named<'a>(graph: &'a Graph, id: JsonRef<'_>) -> Option<&'a Pdu>
+    ensures { option_map (λ event. event.now) result ≡ named graph.now.stored (seen id.entry) }
 {
     let stored = graph.get(id.text()?)?;
-    match stored.event.event().state_key() {
-        Some(_) => Some(stored),
-        None => None,
+    Some(stored.event.event())
+}
+
+/// Lays a state event over a state.
+///
+/// # Errors
+///
+/// `BadState` where the event is no state event, or where something holds at its type and state key. `Memory` where memory ran out.
+pub(crate) fn lay(alloc: Global, state: &mut State, event: &Pdu) -> Result<(), Status>
+    ensures ok { OnOk result (laid state.old event.now ≡ Ok state.new) }
+    ensures fault { IfErr result (λ status. status ≢ Memory → laid state.old event.now ≡ Err status) }
+{
+    let state_key = event.state_key().ok_or(Status::BadState)?;
+    if state.get(event.kind(), state_key).is_some() {
+        return Err(Status::BadState);
     }
+    let id = event.id().copy(alloc)?;
+    Ok(state.insert(alloc, event.kind(), state_key, id)?)
 }

@@ -52,10 +52,15 @@ pub enum Status {
     NotSigned,
     /// The value is no array of the events of a room, each behind those that it names.
     BadEvents,
-    /// The value is no array of the ids of state events of the room, or no array of such arrays.
+    /// The value is no array of the ids of state events of the room, or no array of such arrays; or an event of a state is no state event, or
+    /// stands at the type and state key of another one of the state.
     BadState,
     /// The value is no array of the names of servers.
     BadServers,
+    /// The value is no array of texts, which are the ids of events.
+    BadIds,
+    /// An event names an auth event that is not among those that are given.
+    MissingEvents,
 }
 
 impl Status {
@@ -88,6 +93,8 @@ impl Status {
             Status::BadEvents => 21,
             Status::BadState => 22,
             Status::BadServers => 23,
+            Status::BadIds => 24,
+            Status::MissingEvents => 25,
         }
     }
 }
