@@ -1,5 +1,5 @@
 -- What stands in a value with a member more or less.
-use Rattle.std.proofs.Common.{◌≡◌, ℕ, List, true, false, ◌&&◌, Option, Some, None, Ordering, Less, Equal, Greater, refl, sym, ap, ◌∙◌}
+use Rattle.std.proofs.Common.{◌≡◌, ℕ, List, true, ◌&&◌, Option, Some, None, Ordering, Less, Equal, Greater, refl, sym, ap, ◌∙◌}
 use Rattle.std.specs.Prelude.{IsSome, is_some}
 use Rattle.std.specs.Ordering.{nat_cmp, is_eq, is_lt, match_ordering}
 use Rattle.std.specs.Str.{chars, is_utf8}
@@ -8,7 +8,7 @@ use Rattle.std.proofs.lemmas.Bool.{and_parts}
 use Rattle.std.proofs.lemmas.Str.{IsUtf8-from_is_utf8}
 use Rattle.std.proofs.lemmas.Map.Text.{is_eq-slice_cmp}
 use Rattle.std.proofs.lemmas.Slice.Eq.{bytes_eq-Decides}
-use Rattle.serde_json.specs.Data.{Data, null, boolean, number, string, array, object, Members, no_members, member, put}
+use Rattle.serde_json.specs.Data.{Data, null, boolean, number, string, array, object, Members, no_members, member}
 use Rattle.serde_json.specs.Find.{get, get_member, as_object}
 use Rattle.serde_json.proofs.Views.{get_member-put, get_member-put_other}
 use Rattle.fed_json.specs.Profile.{IsProfile, keys_rise, comes_before, comes_before_first, members_rise}
@@ -53,7 +53,7 @@ before_later k l no_members first later = refl
 before_later k l (member m e ms) first later = ap is_lt (nat_list_cmp_total.trans (chars k) (chars l) (chars m) (less_from _ first) (less_from _ later))
 
 -- a key that comes before the first of these is none of them
-absent : (k : List ℕ) (ms : Members) → is_utf8 k ≡ true → comes_before_first k ms ≡ true → members_rise ms ≡ true → get_member k ms ≡ None
+pub absent : (k : List ℕ) (ms : Members) → is_utf8 k ≡ true → comes_before_first k ms ≡ true → members_rise ms ≡ true → get_member k ms ≡ None
 absent k no_members text before rising = refl
 absent k (member l e ms) text before rising =
     let parts = and_parts (is_utf8 l && comes_before_first l ms) _ rising in
@@ -61,7 +61,7 @@ absent k (member l e ms) text before rising =
     let less : slice_cmp nat_cmp k l ≡ Less = sym (chars_order k l (IsUtf8-from_is_utf8 k text) (IsUtf8-from_is_utf8 l key.0)) ∙ less_from _ before in
     rw less (absent k ms text (before_later k l ms before key.1) (and_parts (keys_rise e) _ parts.1).1)
 
-same_key : (k l : List ℕ) → slice_cmp nat_cmp k l ≡ Equal → k ≡ l
+pub same_key : (k l : List ℕ) → slice_cmp nat_cmp k l ≡ Equal → k ≡ l
 same_key k l is = (bytes_eq-Decides k l).0 (sym (is_eq-slice_cmp k l) ∙ ap is_eq is)
 
 dropped_at : (o : Ordering) (k l : List ℕ) (e : Data) (ms : Members) → slice_cmp nat_cmp k l ≡ o → (k ≡ l → get_member k ms ≡ None) → get_member k (drop_member k ms) ≡ None

@@ -3,6 +3,10 @@ pub mod Quoting
 pub mod CanonicalTexts
 pub mod Injective
 pub mod Equal
+pub mod Trees
+pub mod Sorted
+pub mod Written
+pub mod Places
 pub mod Parts
 pub mod TextMaps
 pub mod Edited

@@ -1,43 +1,19 @@
 -- A part of a value of the profile is one, and so is a value with a member more or less.
-use Rattle.std.proofs.Common.{◌≡◌, ℕ, ◌≤◌, List, [], ◌∷◌, ◌++◌, true, false, ◌&&◌, Option, Some, Ordering, Less, Equal, Greater, refl, ap, ◌∙◌, arith, string_bytes, string_cmp, nat_cmp, is_eq, cond}
+use Rattle.std.proofs.Common.{◌≡◌, ℕ, ◌≤◌, List, [], ◌∷◌, true, false, ◌&&◌, Option, Some, Ordering, Less, Equal, Greater, refl, ap, ◌∙◌, arith, nat_cmp}
 use Rattle.std.proofs.lemmas.Bool.{and_parts}
-use Rattle.std.proofs.lemmas.Str.{IsUtf8-string_bytes, is_utf8-from_IsUtf8}
-use Rattle.std.specs.List.Sorted.{IsStrictlySortedBy}
-use Rattle.std.specs.Map.{keys_of, remove_entry}
-use Rattle.std.specs.BTreeMap.{is_at}
+use Rattle.std.proofs.lemmas.Str.{IsUtf8-from_is_utf8}
 use Rattle.fed_json.specs.Editing.{drop_member, item_after}
-use Rattle.std.specs.Ordering.{match_ordering, is_lt}
-use Rattle.std.specs.Cmp.Lexicographic.{slice_cmp}
-use Rattle.std.specs.Str.{is_utf8}
+use Rattle.std.specs.Ordering.{match_ordering, ordering_reverse, is_lt}
+use Rattle.std.specs.Cmp.Lexicographic.{slice_cmp, nat_list_cmp_total}
+use Rattle.std.specs.Str.{chars, is_utf8}
 use Rattle.serde_json.specs.Data.{Num, unsigned, negative, float, Data, null, boolean, number, string, array, object, Items, no_items, item, Members, no_members, member, depth, items_depth, members_depth, put}
 use Rattle.serde_json.specs.Find.{get, get_member, is_float, as_object}
 use Rattle.serde_json.specs.Written.{has_float, items_have_float, members_have_float}
-use Rattle.serde_json.specs.View.{view, members_view, items_view, items_of}
+use Rattle.serde_json.specs.View.{items_of}
 use Rattle.fed_json.specs.JsonRef.{list_of}
-use Rattle.serde_json.specs.declared.value.Value.{Value}
-use Rattle.serde_json.proofs.Views.{Entry}
-use Rattle.fed_json.specs.Profile.{IsWithin, MembersAreWithin, AreWithin, is_whole, all_whole, items_whole, items_rise, members_whole, comes_before_first, keys_rise, members_rise}
+use Rattle.fed_json.specs.Profile.{IsWithin, MembersAreWithin, AreWithin, is_whole, all_whole, items_whole, items_rise, members_whole, comes_before, comes_before_first, keys_rise, members_rise}
 use Rattle.fed_json.proofs.KeyOrder.{chars_order}
-
--- ---- what a sorted map gives
-
-before_first : (e : Entry) (left : List Entry) → IsStrictlySortedBy string_cmp (keys_of (e ∷ left)) → comes_before_first (string_bytes e.0) (members_view left) ≡ true
-unfolding IsStrictlySortedBy
-before_first e [] h = refl
-before_first e (f ∷ left) h =
-    let by_bytes : slice_cmp nat_cmp (string_bytes e.0) (string_bytes f.0) ≡ Less = h.0.0 in
-    ap is_lt (chars_order (string_bytes e.0) (string_bytes f.0) (IsUtf8-string_bytes e.0) (IsUtf8-string_bytes f.0) ∙ by_bytes)
-
-pub sorted_rest : (e : Entry) (left : List Entry) → IsStrictlySortedBy string_cmp (keys_of (e ∷ left)) → IsStrictlySortedBy string_cmp (keys_of left)
-unfolding IsStrictlySortedBy
-sorted_rest e left h = h.1
-
-pub members_rise-sorted : (e : Entry) (left : List Entry) → IsStrictlySortedBy string_cmp (keys_of (e ∷ left)) → keys_rise (view e.1) ≡ true → members_rise (members_view left) ≡ true
-    → members_rise (members_view (e ∷ left)) ≡ true
-members_rise-sorted e left h a b =
-    let first = before_first e left h in
-    let text : is_utf8 (string_bytes e.0) ≡ true = is_utf8-from_IsUtf8 (string_bytes e.0) (IsUtf8-string_bytes e.0) in
-    rw (text, first, a, b)
+use Rattle.fed_json.proofs.Edited.{before_later}
 
 -- ---- a member of an object, an item of an array
 
@@ -129,16 +105,13 @@ pub values_within : (n : ℕ) (ms : Members) → MembersAreWithin n ms → Value
 values_within n no_members h = tt
 values_within n (member k d ms) h = let parts = first_member_within n k d ms h in (parts.0, values_within n ms parts.1)
 
-pub sorted_within : (n : ℕ) (es : List Entry) → IsStrictlySortedBy string_cmp (keys_of es) → ValuesAreWithin n (members_view es) → MembersAreWithin n (members_view es)
-sorted_within n [] sorted h = record { whole = refl; rising = refl; shallow = omega arith }
-sorted_within n (e ∷ es) sorted h =
-    let rest = sorted_within n es (sorted_rest e es sorted) h.1 in
-    let whole : all_whole (view e.1) ≡ true = h.0.whole in
-    record {
-      whole = rw (whole, rest.whole);
-      rising = members_rise-sorted e es sorted h.0.rising rest.rising;
-      shallow = omega (arith, h.0.shallow, rest.shallow);
-    }
+-- values within n, under names that rise
+pub members_within_of : (n : ℕ) (ms : Members) → ValuesAreWithin n ms → members_rise ms ≡ true → MembersAreWithin n ms
+members_within_of n no_members all rising = record { whole = refl; rising = refl; shallow = omega arith }
+members_within_of n (member k d ms) all rising =
+    let rest = members_within_of n ms all.1 (and_parts (keys_rise d) _ (and_parts (is_utf8 k && comes_before_first k ms) _ rising).1).1 in
+    let whole : all_whole d ≡ true = all.0.whole in
+    record { whole = rw (whole, rest.whole); rising = rising; shallow = omega (arith, all.0.shallow, rest.shallow) }
 
 put_by : (n : ℕ) (o : Ordering) (a b c : Members) → ValuesAreWithin n a → ValuesAreWithin n b → ValuesAreWithin n c → ValuesAreWithin n (match_ordering o a b c)
 put_by n Less a b c x y z = x
@@ -155,15 +128,66 @@ values_within-drop_member n k (member l e ms) all =
     let rest = values_within-drop_member n k ms all.1 in
     put_by n (slice_cmp nat_cmp k l) _ _ _ (all.0, rest) all.1 (all.0, rest)
 
-dropped_or : (o : Ordering) (e : Entry) (es rest : List Entry) (ms : Members) → members_view rest ≡ ms
-    → members_view (cond (is_eq o) es (e ∷ rest)) ≡ match_ordering o (member (string_bytes e.0) (view e.1) ms) (members_view es) (member (string_bytes e.0) (view e.1) ms)
-dropped_or Less e es rest ms same = ap (member (string_bytes e.0) (view e.1)) same
-dropped_or Equal e es rest ms same = refl
-dropped_or Greater e es rest ms same = ap (member (string_bytes e.0) (view e.1)) same
+-- ---- names still rise
 
-pub members_view-remove_entry : (k : List ℕ) (es : List Entry) → members_view (remove_entry (is_at (λ l. slice_cmp nat_cmp k (string_bytes l))) es) ≡ drop_member k (members_view es)
-members_view-remove_entry k [] = refl
-members_view-remove_entry k (e ∷ es) = dropped_or (slice_cmp nat_cmp k (string_bytes e.0)) e es _ _ (members_view-remove_entry k es)
+before_by : (o : Ordering) (l k : List ℕ) (d : Data) (m : List ℕ) (e : Data) (ms : Members) → comes_before l k ≡ true → comes_before l m ≡ true
+    → comes_before_first l (match_ordering o (member k d (member m e ms)) (member m d ms) (member m e (put k d ms))) ≡ true
+before_by Less l k d m e ms one two = one
+before_by Equal l k d m e ms one two = two
+before_by Greater l k d m e ms one two = two
+
+before_put : (l k : List ℕ) (d : Data) (ms : Members) → comes_before l k ≡ true → comes_before_first l ms ≡ true → comes_before_first l (put k d ms) ≡ true
+before_put l k d no_members one all = one
+before_put l k d (member m e ms) one all = before_by (slice_cmp nat_cmp k m) l k d m e ms one all
+
+rise_by : (o : Ordering) (k : List ℕ) (d : Data) (l : List ℕ) (e : Data) (ms : Members) → slice_cmp nat_cmp k l ≡ o → is_utf8 k ≡ true → keys_rise d ≡ true → members_rise (member l e ms) ≡ true
+    → members_rise (put k d ms) ≡ true → members_rise (match_ordering o (member k d (member l e ms)) (member l d ms) (member l e (put k d ms))) ≡ true
+rise_by o k d l e ms is text one rising more =
+    let parts = and_parts (is_utf8 l && comes_before_first l ms) _ rising in
+    let key = and_parts (is_utf8 l) _ parts.0 in
+    let rest = and_parts (keys_rise e) _ parts.1 in
+    let order = chars_order k l (IsUtf8-from_is_utf8 k text) (IsUtf8-from_is_utf8 l key.0) in
+    by o is order key rest
+  where
+    by : (o : Ordering) → slice_cmp nat_cmp k l ≡ o → slice_cmp nat_cmp (chars k) (chars l) ≡ slice_cmp nat_cmp k l → (is_utf8 l ≡ true) × (comes_before_first l ms ≡ true) → (keys_rise e ≡ true) × (members_rise ms ≡ true)
+        → members_rise (match_ordering o (member k d (member l e ms)) (member l d ms) (member l e (put k d ms))) ≡ true
+    by Less is order key rest = let first : comes_before k l ≡ true = ap is_lt (order ∙ is) in rw (text, first, one, rising) refl
+    by Equal is order key rest = rw (key.0, key.1, one, rest.1) refl
+    by Greater is order key rest =
+        let first : comes_before l k ≡ true = ap is_lt (nat_list_cmp_total.antisymm (chars l) (chars k) ∙ ap ordering_reverse (order ∙ is)) in
+        rw (key.0, before_put l k d ms first key.1, rest.0, more) refl
+
+pub members_rise-put : (k : List ℕ) (d : Data) (ms : Members) → is_utf8 k ≡ true → keys_rise d ≡ true → members_rise ms ≡ true → members_rise (put k d ms) ≡ true
+members_rise-put k d no_members text one rising = rw (text, one) refl
+members_rise-put k d (member l e ms) text one rising =
+    let rest = (and_parts (keys_rise e) _ (and_parts (is_utf8 l && comes_before_first l ms) _ rising).1).1 in
+    rise_by _ k d l e ms refl text one rising (members_rise-put k d ms text one rest)
+
+before_drop_by : (o : Ordering) (l k m : List ℕ) (e : Data) (ms : Members) → comes_before l m ≡ true → comes_before_first m ms ≡ true
+    → comes_before_first l (match_ordering o (member m e (drop_member k ms)) ms (member m e (drop_member k ms))) ≡ true
+before_drop_by Less l k m e ms one all = one
+before_drop_by Equal l k m e ms one all = before_later l m ms one all
+before_drop_by Greater l k m e ms one all = one
+
+before_drop : (l k : List ℕ) (ms : Members) → comes_before_first l ms ≡ true → members_rise ms ≡ true → comes_before_first l (drop_member k ms) ≡ true
+before_drop l k no_members one rising = refl
+before_drop l k (member m e ms) one rising =
+    let key = and_parts (is_utf8 m) _ (and_parts (is_utf8 m && comes_before_first m ms) _ rising).0 in
+    before_drop_by (slice_cmp nat_cmp k m) l k m e ms one key.1
+
+rise_drop_by : (o : Ordering) (k l : List ℕ) (e : Data) (ms : Members) → is_utf8 l ≡ true → comes_before_first l (drop_member k ms) ≡ true → keys_rise e ≡ true → members_rise ms ≡ true → members_rise (drop_member k ms) ≡ true
+    → members_rise (match_ordering o (member l e (drop_member k ms)) ms (member l e (drop_member k ms))) ≡ true
+rise_drop_by Less k l e ms text first one rising rest = rw (text, first, one, rest) refl
+rise_drop_by Equal k l e ms text first one rising rest = rising
+rise_drop_by Greater k l e ms text first one rising rest = rw (text, first, one, rest) refl
+
+pub members_rise-drop : (k : List ℕ) (ms : Members) → members_rise ms ≡ true → members_rise (drop_member k ms) ≡ true
+members_rise-drop k no_members rising = refl
+members_rise-drop k (member l e ms) rising =
+    let parts = and_parts (is_utf8 l && comes_before_first l ms) _ rising in
+    let key = and_parts (is_utf8 l) _ parts.0 in
+    let rest = and_parts (keys_rise e) _ parts.1 in
+    rise_drop_by (slice_cmp nat_cmp k l) k l e ms key.0 (before_drop l k ms key.1 rest.1) rest.0 rest.1 (members_rise-drop k ms rest.1)
 
 pub as_object_within : (n : ℕ) (d : Data) (ms : Members) → IsWithin n d → Some ms ≡ as_object d → MembersAreWithin n ms
 as_object_within n null ms h is = absurd (cc)
@@ -174,10 +198,6 @@ as_object_within n (array ds) ms h is = absurd (cc)
 as_object_within n (object ns) ms h is = let same : ms ≡ ns = cc in rw same (members_within n ns h)
 
 -- ---- an item more
-
-pub items_view-after : (vs : List Value) (v : Value) → items_view (vs ++ v ∷ []) ≡ item_after (view v) (items_view vs)
-items_view-after [] v = refl
-items_view-after (u ∷ vs) v = ap (item (view u)) (items_view-after vs v)
 
 whole_after : (d : Data) (ds : Items) → all_whole d ≡ true → items_whole ds ≡ true → items_whole (item_after d ds) ≡ true
 whole_after d no_items w h = rw w refl

@@ -1,22 +1,20 @@
 -- The canonical text of a value is read as that value.
-use Rattle.std.proofs.Common.{◌≡◌, ℕ, ◌≤◌, pos, negsuc, List, [], ◌∷◌, ◌++◌, true, ◌&&◌, Option, Some, option_map, option_and_then, Ordering, Less, Equal, Greater, refl, sym, ap, ap₂, ◌∙◌, arith, rules, append-nil, String, Global, string_bytes}
-use Rattle.std.specs.Ordering.{nat_cmp, ordering_reverse, match_ordering}
-use Rattle.std.specs.Str.{chars, is_utf8}
+use Rattle.std.proofs.Common.{◌≡◌, ℕ, ◌≤◌, List, [], true, ◌&&◌, Option, Some, option_map, option_and_then, Less, Greater, refl, sym, ap, ap₂, ◌∙◌, arith, append-nil}
+use Rattle.std.specs.Ordering.{nat_cmp, ordering_reverse}
+use Rattle.std.specs.Str.{is_utf8}
 use Rattle.std.specs.Cmp.Lexicographic.{slice_cmp, nat_list_cmp_total}
 use Rattle.std.proofs.lemmas.Bool.{and_parts}
 use Rattle.std.proofs.lemmas.Str.{IsUtf8-from_is_utf8}
 use Rattle.json.specs.Token.{Token}
-use Rattle.json.specs.Lex.{tokens}
-use Rattle.json.specs.Print.{quoted}
 use Rattle.json.specs.Json as json
 use Rattle.json.specs.Tree as tree
 use Rattle.json.proofs.Printed.Trees.{value-json_tokens}
-use Rattle.serde_json.specs.Data.{Num, unsigned, negative, float, Data, null, boolean, number, string, array, object, Items, no_items, item, Members, no_members, member, put, depth, items_depth, members_depth}
+use Rattle.serde_json.specs.Data.{Data, null, boolean, number, string, array, object, Items, no_items, item, Members, no_members, member, put, depth, items_depth, members_depth}
 use Rattle.serde_json.specs.Read.{of_json, of_items, of_members, max_depth, read}
-use Rattle.serde_json.specs.View.{view}
-use Rattle.serde_json.specs.declared.value.Value.{String as Text, the_lemmas}
 use Rattle.serde_json.specs.Written.{outline, items_outline, members_outline, compact_text}
 use Rattle.fed_json.specs.Profile.{comes_before, comes_before_first, all_whole, items_whole, members_whole, keys_rise, items_rise, members_rise}
+use Rattle.std.specs.Prelude.{IsUtf8}
+use Rattle.fed_json.specs.Reading.{ReadsAs}
 use Rattle.fed_json.proofs.KeyOrder.{chars_order}
 use Rattle.fed_json.proofs.Edited.{less_from, before_later}
 use Rattle.fed_json.proofs.Injective.{number_read, text_tokens}
@@ -118,9 +116,6 @@ mutual
 
 -- ---- all together
 
-pub view-String : (s : String Global) → view (Text s) ≡ string (string_bytes s)
-view-String s = search (rules, the_lemmas)
-
 abbrev last : Option (json.Json × List Token) → Option Data
 last o = option_and_then of_json (option_and_then (λ p. json.if_last p.0 p.1) o)
 
@@ -128,3 +123,7 @@ pub read-compact_text : (d : Data) → all_whole d ≡ true → keys_rise d ≡ 
 read-compact_text d w r shallow =
     ap (λ ts. last (json.value max_depth ts)) (text_tokens d w ∙ sym (append-nil _)) ∙ ap last (value-json_tokens (outline d) max_depth [] (omega (arith, depth-outline d, shallow)))
     ∙ of_json-outline d w r
+
+-- a text of UTF-8 is read as its value
+pub reads_as : (d : Data) → all_whole d ≡ true → keys_rise d ≡ true → depth d ≤ max_depth → IsUtf8 (compact_text d) → ReadsAs (compact_text d) d
+reads_as d w r shallow utf8 = (utf8, read-compact_text d w r shallow)

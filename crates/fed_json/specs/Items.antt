@@ -1,7 +1,7 @@
 -- The items that an `Items` has left.
 use Rattle.std.specs.Prelude.{List, map}
 use Rattle.serde_json.specs.Data.{Data}
-use Rattle.serde_json.specs.View.{view}
+use Rattle.fed_json.specs.Tree.{view}
 use Rattle.fed_json.specs.declared.items.Items.{Items}
 
 abbrev pub left : Items → List Data

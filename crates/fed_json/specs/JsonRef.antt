@@ -2,7 +2,7 @@
 use Rattle.std.specs.Prelude.{ℤ, ℕ, List, [], ◌∷◌, Option, option_map, option_and_then}
 use Rattle.serde_json.specs.Data.{Data, Items, no_items, item, Members, no_members, member}
 use Rattle.serde_json.specs.Find.{as_number, as_i64, as_array, as_object}
-use Rattle.serde_json.specs.View.{view}
+use Rattle.fed_json.specs.Tree.{view}
 use Rattle.fed_json.specs.declared.json_ref.JsonRef.{JsonRef}
 
 abbrev pub seen : JsonRef → Data

@@ -1,4 +1,7 @@
 pub mod Code
+pub mod Tree
+pub mod Rows
+pub mod Places
 pub mod Profile
 pub mod Nesting
 pub mod Quoted

@@ -2,16 +2,16 @@
 ghost use Rattle.std.specs.Prelude.{◌≡◌, ◌≤◌, true};
 ghost use Rattle.serde_json.specs.Data.{items_depth};
 ghost use Rattle.serde_json.specs.Read.{max_depth};
-ghost use Rattle.serde_json.specs.View.{items_view};
+ghost use Rattle.fed_json.specs.Tree.{items_view};
 ghost use Rattle.fed_json.specs.Profile.{items_whole, items_rise};
 
 use crate::json_ref::JsonRef;
-use serde_json::Value;
+use crate::tree::Tree;
 
 /// The items of an array inside a `Json`, from the first that is left on.
 #[derive(Clone, Copy)]
 pub struct Items<'a> {
-    values: &'a [Value],
+    values: &'a [Tree],
     ghost whole: { items_whole (items_view values.now) ≡ true },
     ghost rising: { items_rise (items_view values.now) ≡ true },
     ghost shallow: { items_depth (items_view values.now) ≤ max_depth },
@@ -19,12 +19,12 @@ pub struct Items<'a> {
 
 impl<'a> Items<'a> {
     ghost use Rattle.std.specs.Prelude.{length, map, ◌==◌};
-    ghost use Rattle.serde_json.specs.View.{view};
+    ghost use Rattle.fed_json.specs.Tree.{view};
     ghost use Rattle.fed_json.specs.Profile.{AreWithin};
     ghost use Rattle.fed_json.specs.Items.{left};
 
     // The items of a part of a `Json`.
-    pub(crate) fn new(values: &'a [Value]) -> Items<'a>
+    pub(crate) fn new(values: &'a [Tree]) -> Items<'a>
         requires { AreWithin max_depth (items_view values.now) }
         ensures { left result ≡ map view values.now }
     {

@@ -1,25 +1,24 @@
 // A look into a value.
 ghost use Rattle.std.specs.Prelude.{◌≡◌, ◌≤◌, ◌++◌, true, OnOk, OnErr};
-ghost use Rattle.json.specs.Print.{quoted};
 ghost use Rattle.serde_json.specs.Data.{depth};
 ghost use Rattle.serde_json.specs.Read.{max_depth};
-ghost use Rattle.serde_json.specs.View.{view};
+ghost use Rattle.fed_json.specs.Tree.{view};
 ghost use Rattle.fed_json.specs.Profile.{all_whole, keys_rise};
 
+use crate::depth::depth;
+use crate::entries;
 use crate::fault::NoMemory;
 use crate::items::Items;
 use crate::members::Members;
-use crate::profile::nesting;
+use crate::tree::Tree;
 use crate::value::Json;
-use json::Writer;
-use serde_json::Value;
+use crate::writing::append;
 use std::alloc::Global;
-use std::mem;
 
 /// A value inside a `Json`.
 #[derive(Clone, Copy)]
 pub struct JsonRef<'a> {
-    pub(crate) value: &'a Value,
+    pub(crate) value: &'a Tree,
     ghost whole: { all_whole (view value.now) ≡ true },
     ghost rising: { keys_rise (view value.now) ≡ true },
     ghost shallow: { depth (view value.now) ≤ max_depth },
@@ -38,29 +37,43 @@ impl<'a> JsonRef<'a> {
     pub fn member(self, name: &str) -> Option<JsonRef<'a>>
         ensures { option_map seen result ≡ get name.now (seen self.entry) }
     {
-        let value = self.value.get(name)?;
-        Some(JsonRef { value })
+        match self.value {
+            Tree::Object(members) => {
+                let value = entries::member(members, name)?;
+                Some(JsonRef { value })
+            }
+            _ => None,
+        }
     }
 
     /// The text, where this is one.
     pub fn text(self) -> Option<&'a str>
         ensures { option_map (λ s. s.now) result ≡ as_str (seen self.entry) }
     {
-        self.value.as_str()
+        match self.value {
+            Tree::String(text) => Some(text.as_str()),
+            _ => None,
+        }
     }
 
     /// The boolean, where this is one.
     pub fn boolean(self) -> Option<bool>
         ensures { result ≡ as_bool (seen self.entry) }
     {
-        self.value.as_bool()
+        match self.value {
+            Tree::Bool(flag) => Some(*flag),
+            _ => None,
+        }
     }
 
     /// The number, where this is one.
     pub fn whole(self) -> Option<i64>
         ensures { result ≡ as_whole (seen self.entry) }
     {
-        self.value.as_i64()
+        match self.value {
+            Tree::Number(whole) => Some(*whole),
+            _ => None,
+        }
     }
 
     /// The items, where this is an array.
@@ -68,7 +81,7 @@ impl<'a> JsonRef<'a> {
         ensures { option_map left result ≡ as_items (seen self.entry) }
     {
         match self.value {
-            Value::Array(items) => Some(Items::new(items)),
+            Tree::Array(items) => Some(Items::new(items)),
             _ => None,
         }
     }
@@ -78,7 +91,7 @@ impl<'a> JsonRef<'a> {
         ensures { option_map members_left result ≡ as_members (seen self.entry) }
     {
         match self.value {
-            Value::Object(members) => Some(Members::new(members)),
+            Tree::Object(members) => Some(Members::new(members)),
             _ => None,
         }
     }
@@ -87,7 +100,7 @@ impl<'a> JsonRef<'a> {
     pub fn is_object(self) -> bool
         ensures { IsTrue result ↔ IsSome (as_object (seen self.entry)) }
     {
-        self.value.is_object()
+        self.members().is_some()
     }
 
     /// Whether this is an array.
@@ -106,18 +119,18 @@ impl<'a> JsonRef<'a> {
     }
 
     /// Appends the canonical text of the value, which is UTF-8 and is read as the value again. An error leaves `out` as it was.
-    pub fn append_to(self, alloc: Global, out: &mut Vec<u8>) -> Result<(), NoMemory>
+    pub fn append_to(self, _alloc: Global, out: &mut Vec<u8>) -> Result<(), NoMemory>
         ensures ok { OnOk result
             (out.new.items ≡ out.old.items ++ canonical_text (seen self.entry)) }
         ensures reads_back { OnOk result (ReadsAs (canonical_text (seen self.entry)) (seen self.entry)) }
         ensures err { OnErr result (out.new.items ≡ out.old.items) }
     {
-        if let Value::String(text) = self.value {
-            return append_text(out, text.as_str());
+        let len = out.len();
+        let written = append(self.value, out);
+        if written.is_err() {
+            out.truncate(len);
         }
-        let text = self.value.to_vec(alloc)?;
-        out.extend_from_slice(&text)?;
-        Ok(())
+        written
     }
 
     /// How deep the value nests.
@@ -125,21 +138,6 @@ impl<'a> JsonRef<'a> {
         ensures value { result ≡ depth (seen self.entry) }
         ensures bound { result ≤ max_depth }
     {
-        match nesting(self.value) {
-            Some(depth) => depth,
-            None => unreachable!(),
-        }
+        depth(self.value)
     }
-}
-
-// Appends a text in quotes. An error leaves `out` as it was.
-#[tactic(auto, unfolding(json::specs::Print::print_from))]
-fn append_text(out: &mut Vec<u8>, text: &str) -> Result<(), NoMemory>
-    ensures ok { OnOk result (out.new.items ≡ out.old.items ++ quoted text.now) }
-    ensures err { OnErr result (out.new.items ≡ out.old.items) }
-{
-    let mut writer = Writer::new(mem::try_take(out)?);
-    let written = writer.string(text);
-    *out = writer.into_inner();
-    written
 }

@@ -3,22 +3,28 @@
 //! - `value`: `Json`, an owned value, and how it is put together and taken apart
 //! - `json_ref`: `JsonRef`, a look into one
 //! - `items`, `members`: the items of an array and the members of an object, one after another
-//! - `reading`: from bytes to a value
+//! - `tree`: a value as it is kept, and `entries`, the members of an object in the order of their names
+//! - `reading`: from bytes to a value, and `planting`, from what `serde_json` reads to a value as it is kept
 //! - `writing`: from a value to its one text
 //! - `laws`: what holds of all values and their texts
 //! - `fault`: why bytes are no value
 //! - `same`: whether two values are the same
-//! - `profile`: the walk that tells whether a value is of the profile
+//! - `profile`: the walk that tells whether a value that was read is of the profile
+//! - `depth`: how deep a value nests
 #![tactic(auto)]
 
+mod depth;
+mod entries;
 mod fault;
 mod items;
 mod json_ref;
 mod laws;
 mod members;
+mod planting;
 mod profile;
 mod reading;
 mod same;
+mod tree;
 mod value;
 mod writing;
 

@@ -2,37 +2,32 @@
 ghost use Rattle.std.specs.Prelude.{◌≡◌, ◌≤◌, true};
 ghost use Rattle.serde_json.specs.Data.{members_depth};
 ghost use Rattle.serde_json.specs.Read.{max_depth};
-ghost use Rattle.serde_json.specs.View.{members_view};
+ghost use Rattle.fed_json.specs.Tree.{members_view};
 ghost use Rattle.fed_json.specs.Profile.{members_whole, members_rise};
 
 use crate::json_ref::JsonRef;
-use serde_json::{Map, Value};
-use std::collections::btree_map::Iter;
+use crate::tree::Tree;
 
 /// The members of an object inside a `Json`, from the first that is left on, in the order of their keys.
-#[derive(Drop)]
+#[derive(Clone, Copy)]
 pub struct Members<'a> {
-    entries: Iter<'a, String, Value>,
-    ghost whole: { members_whole (members_view entries) ≡ true },
-    ghost rising: { members_rise (members_view entries) ≡ true },
-    ghost shallow: { members_depth (members_view entries) ≤ max_depth },
+    entries: &'a [(String, Tree)],
+    ghost whole: { members_whole (members_view entries.now) ≡ true },
+    ghost rising: { members_rise (members_view entries.now) ≡ true },
+    ghost shallow: { members_depth (members_view entries.now) ≤ max_depth },
 }
 
 impl<'a> Members<'a> {
-    ghost use Rattle.serde_json.specs.View.{view};
-    ghost use Rattle.std.specs.Prelude.{map, string_bytes};
     ghost use Rattle.fed_json.specs.Profile.{MembersAreWithin};
     ghost use Rattle.fed_json.specs.Members.{members_left};
     ghost use Rattle.fed_json.specs.JsonRef.{pairs_of};
 
     // The members of a part of a `Json`.
-    pub(crate) fn new(members: &'a Map<String, Value>) -> Members<'a>
-        requires { MembersAreWithin max_depth (members_view members.now.entries) }
-        ensures { members_left result ≡ pairs_of (members_view members.now.entries) }
+    pub(crate) fn new(members: &'a [(String, Tree)]) -> Members<'a>
+        requires { MembersAreWithin max_depth (members_view members.now) }
+        ensures { members_left result ≡ pairs_of (members_view members.now) }
     {
-        Members {
-            entries: members.iter(),
-        }
+        Members { entries: members }
     }
 }
 
@@ -47,7 +42,9 @@ impl<'a> Iterator for Members<'a> {
     ghost remaining = { item_count members_left };
 
     fn next(&mut self) -> Option<(&'a str, JsonRef<'a>)> {
-        let (key, value) = self.entries.next()?;
-        Some((key.as_str(), JsonRef { value }))
+        let (first, others) = self.entries.split_first()?;
+        self.entries = others;
+        let (name, value) = first;
+        Some((name.as_str(), JsonRef { value }))
     }
 }

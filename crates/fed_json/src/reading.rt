@@ -1,9 +1,10 @@
 // From bytes to a value.
-ghost use Rattle.std.specs.Prelude.{◌≡◌, ◌≤◌, IfOk, IsErrOf};
+ghost use Rattle.std.specs.Prelude.{◌≤◌, IfOk, IsErrOf};
 ghost use Rattle.serde_json.specs.Data.{Data};
 ghost use Rattle.fed_json.specs.Reading.{ReadsWithin, IsNotJson, HasOtherNumber, NestsPast, IsOnly};
 
 use crate::fault::JsonFault;
+use crate::planting::planted;
 use crate::profile::nesting;
 use crate::value::Json;
 use serde_json::Value;
@@ -51,5 +52,7 @@ pub fn read_within(alloc: Global, bytes: &[u8], levels: usize) -> Result<Json, J
     if depth > levels {
         return Err(JsonFault::TooDeep);
     }
-    Ok(Json { value })
+    Ok(Json {
+        value: planted(alloc, value)?,
+    })
 }

@@ -2,19 +2,20 @@
 ghost use Rattle.std.specs.Prelude.{◌≡◌, ℕ, true, ◌↔◌, IsTrue, ◌<◌, ◌≤◌, ◌^◌, IfOk, OnOk, OnErr, IsSome, Some, string_bytes, option_map, map};
 ghost use Rattle.serde_json.specs.Data.{depth, unsigned, number, string, array, no_items, object, no_members, put};
 ghost use Rattle.serde_json.specs.Read.{max_depth};
-ghost use Rattle.serde_json.specs.Find.{as_str, as_object, get, get_member, of_integer};
+ghost use Rattle.serde_json.specs.Find.{as_str, as_object, get, of_integer};
 ghost use Rattle.fed_json.specs.JsonRef.{seen, as_whole, as_items, as_members};
 ghost use Rattle.fed_json.specs.Items.{left};
 ghost use Rattle.fed_json.specs.Members.{members_left};
-ghost use Rattle.serde_json.specs.View.{items_view, members_view, view as value_view};
-ghost use Rattle.fed_json.specs.Profile.{AreWithin, IsWithin, MembersAreWithin, is_whole};
-ghost use Rattle.fed_json.specs.Editing.{without, with_member, drop_member, with_item, item_after};
+ghost use Rattle.fed_json.specs.Tree.{items_view, view as value_view};
+ghost use Rattle.fed_json.specs.Profile.{AreWithin, IsWithin, is_whole};
+ghost use Rattle.fed_json.specs.Editing.{without, with_member, with_item, item_after};
 
+use crate::entries::{insert_member, remove_member};
 use crate::fault::NoMemory;
 use crate::items::Items;
 use crate::json_ref::JsonRef;
 use crate::members::Members;
-use serde_json::{Map, Value};
+use crate::tree::Tree;
 use std::alloc::Global;
 use std::marker::Model;
 
@@ -23,13 +24,13 @@ use std::marker::Model;
 /// Contracts see it as the value that it stands for.
 #[derive(Drop)]
 pub struct Json {
-    pub(crate) value: Value,
+    pub(crate) value: Tree,
 }
 
 impl Model for Json {
     ghost use Rattle.serde_json.specs.Data.{Data};
     ghost use Rattle.serde_json.specs.Read.{max_depth};
-    ghost use Rattle.serde_json.specs.View.{view as value_view};
+    ghost use Rattle.fed_json.specs.Tree.{view as value_view};
     ghost use Rattle.fed_json.specs.Code.{coded_data};
     ghost use Rattle.fed_json.specs.Profile.{IsWithin};
 
@@ -48,7 +49,7 @@ impl Json {
         ensures { result ≡ object no_members }
     {
         Json {
-            value: Value::Object(Map::new(alloc)),
+            value: Tree::Object(Vec::new(alloc)),
         }
     }
 
@@ -57,7 +58,7 @@ impl Json {
         ensures { result ≡ array no_items }
     {
         Json {
-            value: Value::Array(Vec::new(alloc)),
+            value: Tree::Array(Vec::new(alloc)),
         }
     }
 
@@ -67,7 +68,7 @@ impl Json {
         ensures { result ≡ number (unsigned whole) }
     {
         Json {
-            value: Value::from(whole),
+            value: Tree::Number(whole as i64),
         }
     }
 
@@ -77,7 +78,7 @@ impl Json {
         ensures { result ≡ number (of_integer signed) }
     {
         Json {
-            value: Value::from(signed),
+            value: Tree::Number(signed),
         }
     }
 
@@ -151,7 +152,7 @@ impl Json {
         ensures taken { result ≡ get name.now self.old }
         ensures rest { self.new ≡ without name.now self.old }
     {
-        let value = remove_member(self.value.as_object_mut()?, name)?;
+        let value = remove_member(self.value.members_mut()?, name)?;
         Some(Json { value })
     }
 
@@ -163,7 +164,7 @@ impl Json {
         ensures err { OnErr result (self.new ≡ self.old) }
     {
         let Json { value } = member;
-        if let Some(members) = self.value.as_object_mut() {
+        if let Some(members) = self.value.members_mut() {
             insert_member(members, name, value)?;
         }
         Ok(())
@@ -176,7 +177,7 @@ impl Json {
         ensures err { OnErr result (self.new ≡ self.old) }
     {
         let Json { value } = item;
-        if let Some(items) = self.value.as_array_mut() {
+        if let Some(items) = self.value.items_mut() {
             push_item(items, value)?;
         }
         Ok(())
@@ -189,7 +190,7 @@ impl Json {
     {
         let Json { value } = self;
         match value {
-            Value::Array(values) => wrapped(alloc, values),
+            Tree::Array(values) => wrapped(alloc, values),
             _ => unreachable!(),
         }
     }
@@ -208,41 +209,13 @@ impl From<String> for Json {
 
     fn from(text: String) -> Json {
         Json {
-            value: Value::String(text),
+            value: Tree::String(text),
         }
     }
 }
 
-fn remove_member(members: &mut Map<String, Value>, name: &str) -> Option<Value>
-    ensures taken { option_map value_view result
-        ≡ get_member name.now (members_view members.old.entries) }
-    ensures rest { members_view members.new.entries
-        ≡ drop_member name.now (members_view members.old.entries) }
-    ensures within { (n : ℕ) → MembersAreWithin n (members_view members.old.entries)
-        → MembersAreWithin n (members_view members.new.entries) }
-{
-    members.remove(name)
-}
-
-// An error leaves the members as they were.
-fn insert_member(
-    members: &mut Map<String, Value>,
-    name: String,
-    value: Value,
-) -> Result<(), NoMemory>
-    ensures ok { OnOk result (members_view members.new.entries
-        ≡ put (string_bytes name) (value_view value) (members_view members.old.entries)) }
-    ensures err { OnErr result (members.new.entries ≡ members.old.entries) }
-    ensures within { (n : ℕ) → IsWithin n (value_view value)
-        → MembersAreWithin n (members_view members.old.entries)
-        → MembersAreWithin n (members_view members.new.entries) }
-{
-    drop(members.insert(name, value)?);
-    Ok(())
-}
-
 // An error leaves the items as they were.
-fn push_item(items: &mut Vec<Value>, value: Value) -> Result<(), NoMemory>
+fn push_item(items: &mut Vec<Tree>, value: Tree) -> Result<(), NoMemory>
     ensures ok { OnOk result (items_view items.new.items ≡ item_after (value_view value) (items_view items.old.items)) }
     ensures err { OnErr result (items.new.items ≡ items.old.items) }
     ensures within { (n : ℕ) → IsWithin n (value_view value) → AreWithin n (items_view items.old.items)
@@ -253,7 +226,7 @@ fn push_item(items: &mut Vec<Value>, value: Value) -> Result<(), NoMemory>
 }
 
 // Each value as a `Json`.
-fn wrapped(alloc: Global, values: Vec<Value>) -> Result<Vec<Json>, NoMemory>
+fn wrapped(alloc: Global, values: Vec<Tree>) -> Result<Vec<Json>, NoMemory>
     requires { AreWithin max_depth (items_view values.items) }
     ensures { IfOk result (λ v. v.items ≡ map value_view values.items) }
 {

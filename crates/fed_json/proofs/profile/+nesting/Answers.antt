@@ -6,7 +6,7 @@ use Rattle.serde_json.specs.Data.{depth, members_depth}
 use Rattle.serde_json.specs.View.{view, members_view}
 use Rattle.serde_json.proofs.Views.{Entry}
 use Rattle.fed_json.specs.Profile.{members_whole, members_rise}
-use Rattle.fed_json.proofs.Parts.{sorted_rest, members_rise-sorted}
+use Rattle.fed_json.proofs.Sorted.{sorted_rest, members_rise-sorted}
 use Rattle.fed_json.proofs.profile.+nesting.Goals as goal
 
 pub members_nesting-loop-key-preserved : goal.members_nesting-loop-key-preserved

@@ -1,7 +1,8 @@
 use Rattle.std.proofs.Common.{sym, subst, ap, ◌∙◌}
-use Rattle.serde_json.specs.View.{view, items_view}
+use Rattle.fed_json.specs.Tree.{view, items_view}
 use Rattle.fed_json.specs.Profile.{AreWithin}
-use Rattle.fed_json.proofs.Parts.{items_view-after, within_after}
+use Rattle.fed_json.proofs.Parts.{within_after}
+use Rattle.fed_json.proofs.Trees.{items_view-after}
 use Rattle.fed_json.proofs.value.push_item.Goals as goal
 
 pub returns-clause-ok : goal.returns-clause-ok

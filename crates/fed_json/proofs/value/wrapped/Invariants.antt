@@ -1,6 +1,6 @@
 use Rattle.std.proofs.Common.{◌≡◌, map, ◌++◌}
 use Rattle.serde_json.specs.Read.{max_depth}
-use Rattle.serde_json.specs.View.{view, items_view}
+use Rattle.fed_json.specs.Tree.{view, items_view}
 use Rattle.fed_json.specs.Profile.{AreWithin}
 use Rattle.fed_json.proofs.value.wrapped.Given as goal
 

@@ -1,8 +1,8 @@
 use Rattle.std.proofs.Common.{Some, map, ap, sym, ◌∙◌}
-use Rattle.serde_json.specs.View.{view}
-use Rattle.serde_json.proofs.Views.{view-Array}
+use Rattle.fed_json.specs.Tree.{view}
 use Rattle.fed_json.specs.JsonRef.{as_items}
 use Rattle.fed_json.proofs.Parts.{list_of-items_of}
+use Rattle.fed_json.proofs.Trees.{view-Array}
 use Rattle.fed_json.proofs.json_ref.JsonRef.items.Goals as goal
 
 pub returns-in-Array : goal.returns-in-Array

@@ -1,5 +1,5 @@
 use Rattle.std.proofs.Common.{refl}
-use Rattle.serde_json.specs.View.{view}
+use Rattle.fed_json.specs.Tree.{view}
 use Rattle.fed_json.specs.CanonicalText.{canonical_text}
 use Rattle.fed_json.proofs.Equal.{told_by_texts, value_of_text}
 use Rattle.fed_json.proofs.same.JsonPartialEq.eq.Goals as goal

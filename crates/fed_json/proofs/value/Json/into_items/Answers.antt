@@ -1,9 +1,9 @@
 use Rattle.std.proofs.Common.{◌≡◌, Some, map, ap, sym, ◌∙◌}
 use Rattle.std.proofs.lemmas.Result.{IfOk-weaker}
-use Rattle.serde_json.specs.View.{view}
-use Rattle.serde_json.proofs.Views.{view-Array}
+use Rattle.fed_json.specs.Tree.{view}
 use Rattle.fed_json.specs.JsonRef.{as_items}
 use Rattle.fed_json.proofs.Parts.{list_of-items_of}
+use Rattle.fed_json.proofs.Trees.{view-Array}
 use Rattle.fed_json.proofs.value.Json.into_items.Goals as goal
 
 pub returns : goal.returns
