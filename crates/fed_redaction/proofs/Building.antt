@@ -10,7 +10,7 @@ use Rattle.serde_json.specs.Data.{Data, object, Members, no_members, member, put
 use Rattle.fed_json.specs.Profile.{keys_rise, members_rise, comes_before_first}
 use Rattle.fed_json.specs.Editing.{with_member}
 use Rattle.fed_json.proofs.KeyOrder.{chars_order}
-use Rattle.serde_json.specs.View.{members_view}
+use Rattle.fed_json.specs.Tree.{members_view}
 use Rattle.fed_json.specs.Members.{members_left}
 use Rattle.fed_json.specs.declared.members.Members.{Members as Left}
 use Rattle.fed_redaction.specs.Names.{select, at_name, members_of}
@@ -143,4 +143,4 @@ put_all-rises ms rise = put_all-join ms no_members rise (above_nothing ms)
 -- ---- the members of an object inside a `Json`
 
 pub Rises-left : (s : Left) → Rises (members_of (members_left s))
-Rises-left s = subst Rises (sym (members_of-pairs_of (members_view s.entries))) (Rises-members_rise (members_view s.entries) s.rising)
+Rises-left s = subst Rises (sym (members_of-pairs_of (members_view s.entries.now))) (Rises-members_rise (members_view s.entries.now) s.rising)
