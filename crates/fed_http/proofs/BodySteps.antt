@@ -1,5 +1,5 @@
 -- The bytes of a body, as they come.
-use Rattle.std.proofs.Common.{arith, ◌≡◌, ◌≢◌, ℕ, ◌+◌, ◌<◌, ◌≤◌, List, [], ◌∷◌, ◌++◌, length, take, get_or, refl, sym, ap, subst, ◌∙◌, append_assoc, append-nil, length-append}
+use Rattle.std.proofs.Common.{arith, ◌≡◌, ◌≢◌, ℕ, ◌+◌, ◌<◌, ◌≤◌, List, [], ◌∷◌, ◌++◌, length, get_or, refl, sym, ap, subst, ◌∙◌, append_assoc, append-nil, length-append}
 use Rattle.httparse.specs.Grammar.{print_chunk_line, chunk_size}
 use Rattle.httparse.proofs.PieceLemmas.{front-append}
 use Rattle.fed_http.specs.Limits.{max_body}
@@ -15,7 +15,7 @@ use Rattle.fed_http.specs.declared.framing.Framing.TheVariants.{Fixed, Chunked}
 use Rattle.fed_http.specs.declared.message.Kind.{Kind}
 use Rattle.fed_http.proofs.Stays.{reaches_on, chunks_on, chunks_is}
 use Rattle.fed_http.proofs.Walks.{pushed, data_pushed}
-use Rattle.fed_http.proofs.Keeping.{text_head, keeps_on, chunks_more, chunks_as, chunks_reach, line_waits, empty_lacks_line}
+use Rattle.fed_http.proofs.Keeping.{keeps_on, chunks_more, chunks_as, chunks_reach, line_waits, empty_lacks_line}
 
 pub with_body_is : (h : Head) (body : List ℕ) → with_body (message_of h []) body ≡ message_of h body
 with_body_is (request h) body = refl
@@ -100,9 +100,9 @@ return_on kind k j bytes x start head text body =
     grouped : (a b c : List ℕ) → (a ++ (b ++ [])) ++ c ≡ a ++ (b ++ c)
     grouped a b c = simp (append_assoc, append-nil)
 
-pub feed_on : (kind : Kind) (k j : Kept) (bytes : List ℕ) → IsInChunk kind k bytes 0 (13 ∷ []) → j.start ≡ k.start → j.head ≡ k.head → j.text ≡ take k.head k.text → j.body ≡ k.body → j.at ≡ Size 0
+pub feed_on : (kind : Kind) (k j : Kept) (bytes : List ℕ) → IsInChunk kind k bytes 0 (13 ∷ []) → j.start ≡ k.start → j.head ≡ k.head → j.text ≡ [] → j.body ≡ k.body → j.at ≡ Size 0
     → IsInLine kind j (bytes ++ 10 ∷ []) × IsWaiting kind (bytes ++ 10 ∷ [])
-feed_on kind k j bytes x start head cut body begins =
+feed_on kind k j bytes x start head none body begins =
     let printed = print_chunk_line x.line in
     let cs = x.keeps.chunks in
     let c : Chunk = record { line = x.line; bytes = x.content } in
@@ -111,10 +111,9 @@ feed_on kind k j bytes x start head cut body begins =
     let fits : length (chunk_data cs) + length c.bytes ≤ max_body = omega (arith, ap length x.body, length-append (chunk_data cs) x.content, x.fits) in
     let mid = printed ++ (x.content ++ 13 ∷ []) in
     let reads = pushed (x.keeps.rest ++ 10 ∷ []) (mid ++ 10 ∷ []) cs c [] x.keeps.reads.valid valid fits (front-append x.keeps.rest (print_chunks cs) mid (10 ∷ []) x.keeps.reads.whole) (grouped printed x.content) in
-    let front = cut ∙ text_head kind k bytes Chunked printed x.keeps.rest k.text printed k.head x.keeps.keeps x.keeps.keeps.text refl in
     let keeps : KeepsChunks kind j (bytes ++ 10 ∷ []) [] [] = record {
       rest = x.keeps.rest ++ 10 ∷ [];
-      keeps = keeps_on kind k j bytes (10 ∷ []) Chunked printed [] x.keeps.rest x.keeps.keeps start head front;
+      keeps = keeps_on kind k j bytes (10 ∷ []) Chunked printed [] x.keeps.rest x.keeps.keeps start head none;
       chunks = cs ++ c ∷ [];
       reads = reads;
     } in

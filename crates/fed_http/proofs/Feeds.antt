@@ -43,8 +43,9 @@ abbrev pub fields : Kind → Kept → Bool → Reading
 fields kind kept failed = record { kind = kind; kept = kept; has_failed = failed }
 
 -- nothing is kept of nothing
-pub nothing_kept : (kind : Kind) (k : Kept) → k.at ≡ EmptyLines → k.text ≡ [] → k.body ≡ [] → IsInHead kind k []
-nothing_kept kind k at text body = record {
+pub nothing_kept : (kind : Kind) (k : Kept) → k.at ≡ EmptyLines → k.head ≡ 0 → k.text ≡ [] → k.body ≡ [] → IsInHead kind k []
+nothing_kept kind k at len text body = record {
+  len = len;
   text = text;
   body = body;
   few = omega arith;
@@ -120,15 +121,15 @@ same_stays old new same = subst (Stays old) (sym same) (record { kind = refl; fa
 
 -- ---- how much is kept
 
-pub kept_bound : (kind : Kind) (k : Kept) (bytes : List ℕ) → k.place ≢ Ended → IsKept kind k bytes → length k.text + length k.body ≤ max_held
+pub kept_bound : (kind : Kind) (k : Kept) (bytes : List ℕ) → k.place ≢ Ended → IsKept kind k bytes → k.head + (length k.text + length k.body) ≤ max_held
 kept_bound kind k bytes unended kept = by k.place refl kept
   where
-    of_chunks : (line mid : List ℕ) (x : KeepsChunks kind k bytes line mid) → length k.text ≤ max_head + length line
-    of_chunks line mid x = omega (arith, ap length x.keeps.text, length-append (print_head x.keeps.head) line, x.keeps.within.short)
+    of_chunks : (line mid : List ℕ) (x : KeepsChunks kind k bytes line mid) → k.head + length k.text ≤ max_head + length line
+    of_chunks line mid x = omega (arith, ap length x.keeps.text, x.keeps.len, x.keeps.within.short)
 
-    by : (p : Place) → k.place ≡ p → IsKeptAt p kind k bytes → length k.text + length k.body ≤ max_held
-    by InHead at x = omega (arith, ap length x.text, ap length x.body, x.few)
-    by (InBody left) at x = omega (arith, ap length x.keeps.text, length-append (print_head x.keeps.head) [], x.keeps.within.short, x.missing, x.fits)
+    by : (p : Place) → k.place ≡ p → IsKeptAt p kind k bytes → k.head + (length k.text + length k.body) ≤ max_held
+    by InHead at x = omega (arith, x.len, ap length x.text, ap length x.body, x.few)
+    by (InBody left) at x = omega (arith, ap length x.keeps.text, x.keeps.len, x.keeps.within.short, x.missing, x.fits)
     by InLine at x = omega (arith, of_chunks x.line x.line x.keeps, x.few, ap length x.body, x.keeps.reads.fits)
     by (InData left) at (x, some) = omega (arith, of_chunks (print_chunk_line x.line) (print_chunk_line x.line ++ (x.content ++ [])) x.keeps, x.short.short, x.fits)
     by BehindData at x = omega (arith, of_chunks (print_chunk_line x.line) (print_chunk_line x.line ++ (x.content ++ [])) x.keeps, x.short.short, x.fits)

@@ -50,9 +50,9 @@ head_begun kind s grown now piece taken len used at sound text within o used_is 
           subst (IsKept kind (kept_of now)) (up_to_head s.text.items bytes piece grown.text.items taken len y.text text ends.beyond ends.within ∙ ap (λ n. bytes ++ take n piece) (sym used_is)) o.kept;
     }
 
-pub head_waits : (kind : Kind) (s now : State) (piece : List ℕ) (taken : ℕ) → s.place ≡ InHead → now.place ≡ InHead → now.text.items ≡ s.text.items ++ take taken piece → now.body.items ≡ s.body.items → taken ≡ min (length piece) (max_head - vec_len s.text)
+pub head_waits : (kind : Kind) (s now : State) (piece : List ℕ) (taken : ℕ) → s.place ≡ InHead → now.place ≡ InHead → now.head ≡ s.head → now.text.items ≡ s.text.items ++ take taken piece → now.body.items ≡ s.body.items → taken ≡ min (length piece) (max_head - vec_len s.text)
     → length s.text.items ≡ vec_len s.text → length now.text.items < max_head → (IsHeadPlace kind s.text.items s.at → LacksHead kind now.text.items) → (IsHeadPlace kind s.text.items s.at → IsHeadPlace kind now.text.items now.at) → StillWaits kind s now piece
-head_waits kind s now piece taken at here text body taken_is vec few lacks on =
+head_waits kind s now piece taken at here len text body taken_is vec few lacks on =
     let within : taken ≤ length piece = omega (arith, taken_is) in
     let count : length now.text.items ≡ length s.text.items + taken = omega (arith, ap length text, length-append s.text.items (take taken piece), length-take taken piece, within) in
     let whole : take taken piece ≡ piece = take_all taken piece (omega (arith, taken_is, count, few, vec)) in
@@ -70,6 +70,7 @@ head_waits kind s now piece taken at here text body taken_is vec few lacks on =
           let same = text_is bytes x in
           let lack : LacksHead kind (bytes ++ piece) = subst (LacksHead kind) same (lacks (place bytes x)) in
           let next : IsInHead kind (kept_of now) (bytes ++ piece) = record {
+            len = len ∙ y.len;
             text = same;
             body = body ∙ y.body;
             few = lack.few;

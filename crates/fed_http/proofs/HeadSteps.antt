@@ -9,7 +9,7 @@ use Rattle.fed_http.specs.Limits.{max_head, max_body}
 use Rattle.fed_http.specs.Head.{Head, ReadsHead, HasNoHead, print_head, head_framing, message_of}
 use Rattle.fed_http.specs.Faults.{IsFault, large_length}
 use Rattle.fed_http.specs.Keeping.{Kept, IsKept, IsKeptAt, with_body, KeepsHead, IsInHead}
-use Rattle.fed_http.specs.KeepingParts.{IsSoundFor, HasRoomFor, HasRoomAt, IsOpeningAt, IsPlaceBehind, IsLargeFraming}
+use Rattle.fed_http.specs.KeepingParts.{IsSoundFor, HasRoomAt, IsOpeningAt, IsPlaceBehind, IsLargeFraming}
 use Rattle.fed_http.specs.declared.fault.HttpFault.{HttpFault}
 use Rattle.fed_http.specs.declared.fault.HttpFault.TheVariants.{TooLarge}
 use Rattle.fed_http.specs.declared.framing.Framing.{Framing}
@@ -29,7 +29,7 @@ use Rattle.fed_http.proofs.BodySteps.{with_body_is}
 
 -- ---- what is kept behind a head
 
-pub opening_kept : (kind : Kind) (k : Kept) (bytes : List ℕ) (found : Opening) (place : Place) → IsOpeningAt kind bytes found → IsPlaceBehind found.framing place → k.place ≡ place → k.head ≡ found.len → k.text ≡ take found.len bytes
+pub opening_kept : (kind : Kind) (k : Kept) (bytes : List ℕ) (found : Opening) (place : Place) → IsOpeningAt kind bytes found → IsPlaceBehind found.framing place → k.place ≡ place → k.head ≡ found.len → k.text ≡ []
     → k.start ≡ Some found.message → k.body ≡ [] → k.at ≡ Size 0 → IsKept kind k (take found.len bytes)
 opening_kept kind k bytes found place x behind at head text start body begins =
     let P : Place → Type 0 = λ p. IsKeptAt p kind k (take found.len bytes) in
@@ -47,7 +47,7 @@ opening_kept kind k bytes found place x behind at head text start body begins =
       framed = framed;
       start = start ∙ ap Some x.message;
       len = head ∙ x.len;
-      text = text ∙ front ∙ sym (append-nil (print_head x.head));
+      text = text;
       whole = front ∙ sym (append-nil (print_head x.head)) ∙ ap (λ v. print_head x.head ++ v) (sym none);
     }
 
@@ -129,16 +129,16 @@ large_fault kind bytes found fault x (is, large) = subst (IsFault kind bytes) (s
 
 -- ---- memory
 
-pub room_at : (p : Place) (s t : State) (more rest : ℕ) → HasRoomFor p s more → rest ≤ more → vec_len t.text ≤ vec_len s.text → t.head ≤ vec_len s.text → vec_capacity t.text ≡ vec_capacity s.text → vec_len t.body ≡ vec_len s.body
+pub room_at : (p : Place) (s t : State) (more rest : ℕ) → HasRoomAt p s more → rest ≤ more → vec_len t.text ≤ vec_len s.text → vec_capacity t.text ≡ vec_capacity s.text → vec_len t.body ≡ vec_len s.body
     → vec_capacity t.body ≡ vec_capacity s.body → HasRoomAt p t rest
-room_at InHead s t more rest room fewer text head cap body size = tt
-room_at (InBody left) s t more rest room fewer text head cap body size = omega (arith, room)
-room_at InLine s t more rest room fewer text head cap body size = (omega (arith, room.0), omega (arith, room.1))
-room_at (InData left) s t more rest room fewer text head cap body size = (omega (arith, room.0), omega (arith, room.1))
-room_at BehindData s t more rest room fewer text head cap body size = (omega (arith, room.0), omega (arith, room.1))
-room_at BehindReturn s t more rest room fewer text head cap body size = (omega (arith, room.0), omega (arith, room.1))
-room_at InTrailer s t more rest room fewer text head cap body size = omega (arith, room)
-room_at Ended s t more rest room fewer text head cap body size = tt
+room_at InHead s t more rest room fewer text cap body size = tt
+room_at (InBody left) s t more rest room fewer text cap body size = omega (arith, room)
+room_at InLine s t more rest room fewer text cap body size = (omega (arith, room.0), omega (arith, room.1))
+room_at (InData left) s t more rest room fewer text cap body size = (omega (arith, room.0), omega (arith, room.1))
+room_at BehindData s t more rest room fewer text cap body size = (omega (arith, room.0), omega (arith, room.1))
+room_at BehindReturn s t more rest room fewer text cap body size = (omega (arith, room.0), omega (arith, room.1))
+room_at InTrailer s t more rest room fewer text cap body size = omega (arith, room)
+room_at Ended s t more rest room fewer text cap body size = tt
 
 -- ---- the bytes that came
 

@@ -18,7 +18,7 @@ use Rattle.fed_http.specs.Keeping.{Kept, KeepsHead, IsInBody, KeepsChunks, IsInC
 use Rattle.fed_http.specs.declared.framing.Framing.{Framing}
 use Rattle.fed_http.specs.declared.framing.Framing.TheVariants.{Fixed, Chunked}
 use Rattle.fed_http.specs.declared.message.Kind.{Kind}
-use Rattle.fed_http.proofs.Windows.{split_same, behind, front_of}
+use Rattle.fed_http.proofs.Windows.{split_same, front_of}
 use Rattle.fed_http.proofs.LineCounts.{front_in, section_front, section_is}
 use Rattle.fed_http.proofs.Stays.{chunks_on, chunks_is}
 
@@ -45,7 +45,7 @@ pub keeps_reaches : (kind : Kind) (k : Kept) (bytes : List ℕ) (f : Framing) (l
 keeps_reaches kind k bytes f line rest x = record { head = x.head; reads = record { valid = x.valid; whole = x.whole }; within = x.within; final = x.final; framed = x.framed }
 
 -- more bytes, and another line
-abbrev pub keeps_on : (kind : Kind) (k j : Kept) (bytes more : List ℕ) (f : Framing) (line other rest : List ℕ) (x : KeepsHead kind k bytes f line rest) → j.start ≡ k.start → j.head ≡ k.head → j.text ≡ print_head x.head ++ other
+abbrev pub keeps_on : (kind : Kind) (k j : Kept) (bytes more : List ℕ) (f : Framing) (line other rest : List ℕ) (x : KeepsHead kind k bytes f line rest) → j.start ≡ k.start → j.head ≡ k.head → j.text ≡ other
     → KeepsHead kind j (bytes ++ more) f other (rest ++ more)
 keeps_on kind k j bytes more f line other rest x start head text = record {
   head = x.head;
@@ -60,27 +60,12 @@ keeps_on kind k j bytes more f line other rest x start head text = record {
 }
 
 -- the text with more bytes behind the line
-pub text_more : (kind : Kind) (k : Kept) (bytes more : List ℕ) (f : Framing) (line rest all : List ℕ) (x : KeepsHead kind k bytes f line rest) → all ≡ k.text ++ more → all ≡ print_head x.head ++ (line ++ more)
-text_more kind k bytes more f line rest all x is = is ∙ ap (λ v. v ++ more) x.text ∙ append_assoc (print_head x.head) line more
-
--- the line is what stands behind the head in the text
-pub line_is_behind : (kind : Kind) (k : Kept) (bytes : List ℕ) (f : Framing) (line rest all other : List ℕ) (n : ℕ) (x : KeepsHead kind k bytes f line rest) → n ≡ k.head → all ≡ print_head x.head ++ other → drop n all ≡ other
-line_is_behind kind k bytes f line rest all other n x same is = ap (λ m. drop m all) (same ∙ x.len) ∙ behind all (print_head x.head) other is
-
--- the text up to a place in the line
-pub text_cut : (kind : Kind) (k : Kept) (bytes : List ℕ) (f : Framing) (line rest all a r : List ℕ) (n : ℕ) (x : KeepsHead kind k bytes f line rest) → all ≡ print_head x.head ++ (a ++ r) → n ≡ k.head + length a → take n all ≡ print_head x.head ++ a
-text_cut kind k bytes f line rest all a r n x is len =
-    let whole : all ≡ (print_head x.head ++ a) ++ r = is ∙ sym (append_assoc (print_head x.head) a r) in
-    let count : n ≡ length (print_head x.head ++ a) = omega (arith, len, x.len, length-append (print_head x.head) a) in
-    ap (λ m. take m all) count ∙ front_of all (print_head x.head ++ a) r whole
-
--- the head alone
-pub text_head : (kind : Kind) (k : Kept) (bytes : List ℕ) (f : Framing) (line rest all r : List ℕ) (n : ℕ) (x : KeepsHead kind k bytes f line rest) → all ≡ print_head x.head ++ r → n ≡ k.head → take n all ≡ print_head x.head ++ []
-text_head kind k bytes f line rest all r n x is same = text_cut kind k bytes f line rest all [] r n x is (omega (arith, same))
+pub text_more : (kind : Kind) (k : Kept) (bytes more : List ℕ) (f : Framing) (line rest all : List ℕ) (x : KeepsHead kind k bytes f line rest) → all ≡ k.text ++ more → all ≡ line ++ more
+text_more kind k bytes more f line rest all x is = is ∙ ap (λ v. v ++ more) x.text
 
 -- ---- chunks
 
-abbrev pub chunks_more : (kind : Kind) (k j : Kept) (bytes more line mid other : List ℕ) (x : KeepsChunks kind k bytes line mid) → j.start ≡ k.start → j.head ≡ k.head → j.text ≡ print_head x.keeps.head ++ other
+abbrev pub chunks_more : (kind : Kind) (k j : Kept) (bytes more line mid other : List ℕ) (x : KeepsChunks kind k bytes line mid) → j.start ≡ k.start → j.head ≡ k.head → j.text ≡ other
     → KeepsChunks kind j (bytes ++ more) other (mid ++ more)
 chunks_more kind k j bytes more line mid other x start head text = record {
   rest = x.rest ++ more;

@@ -26,6 +26,7 @@ pub begins_sound : (kind : Kind) (s : State) → ((kind : Kind) → IsKept kind 
 begins_sound kind s kept at = record {
   sound = λ e. ([], (kept kind, empty_has_no_text kind));
   unended = λ e is. let same : InHead ≡ Ended = sym at ∙ is in absurd (cc);
+  head = λ e. absurd (true≢false (sym e));
   text = λ e. absurd (true≢false (sym e));
   body = λ e. absurd (true≢false (sym e));
 }
@@ -37,6 +38,7 @@ waits_sound kind old new piece failed fresh x waits =
     record {
       sound = λ e. (there.0 ++ piece, (waits.kept there.0 there.1.0, waiting_has_no_text kind (there.0 ++ piece) (waits.waits there.0 there.1.0)));
       unended = λ e. waits.unended;
+      head = λ e. absurd (true≢false (sym e));
       text = λ e. absurd (true≢false (sym e));
       body = λ e. absurd (true≢false (sym e));
     }
@@ -46,17 +48,9 @@ pub same_sound : (kind : Kind) (old new : State) (failed : Bool) → kept_of new
 same_sound kind old new failed same fresh x = record {
   sound = λ e. subst (λ (k : Kept). (bytes : List ℕ) × (IsKept kind k bytes × HasNoText kind bytes)) (sym same) (x.sound e);
   unended = λ e is. x.unended e (ap (λ (k : Kept). k.place) (sym same) ∙ is);
+  head = λ e. absurd (true≢false (sym e ∙ fresh));
   text = λ e. absurd (true≢false (sym e ∙ fresh));
   body = λ e. absurd (true≢false (sym e ∙ fresh));
-}
-
--- nothing is kept after a fault
-pub failed_sound : (kind : Kind) (s : State) → s.text.items ≡ [] → s.body.items ≡ [] → IsReading kind s true
-failed_sound kind s text body = record {
-  sound = λ e. absurd (true≢false e);
-  unended = λ e. absurd (true≢false e);
-  text = λ e. text;
-  body = λ e. body;
 }
 
 -- some bytes stand until it has failed
@@ -66,11 +60,11 @@ some_stand old kind s failed view x =
     subst Q view (λ fresh. let there = x.sound fresh in (there.0, record { live = fresh; none = there.1.1; kept = there.1.0 }))
 
 -- a reader of either kind
-pub reading_bound : (kind : Kind) (s : State) (failed : Bool) → IsReading kind s failed → length s.text.items + length s.body.items ≤ max_held
-reading_bound kind s true x = omega (arith, ap length (x.text refl), ap length (x.body refl))
+pub reading_bound : (kind : Kind) (s : State) (failed : Bool) → IsReading kind s failed → s.head + (length s.text.items + length s.body.items) ≤ max_held
+reading_bound kind s true x = omega (arith, x.head refl, ap length (x.text refl), ap length (x.body refl))
 reading_bound kind s false x =
     let there = x.sound refl in
-    let bound : length s.text.items + length s.body.items ≤ max_held = kept_bound kind (kept_of s) there.0 (x.unended refl) there.1.0 in
+    let bound : s.head + (length s.text.items + length s.body.items) ≤ max_held = kept_bound kind (kept_of s) there.0 (x.unended refl) there.1.0 in
     bound
 
 -- a message that has ended has its head

@@ -130,6 +130,9 @@ framed body h = length_given (length body) h
 phrase_passes : (n : ℕ) → 100 ≤ n → n < 1000 → (list_all is_value_byte (phrase_of n) && nat_le (length (phrase_of n)) 64) ≡ true
 phrase_passes n low high = ap (λ t. list_all is_value_byte t && nat_le (length t) 64) (phrase_in n (low, high)) ∙ none_or_some (reason_phrase n) (phrases_pass n)
 
+pub phrase_short : (n : ℕ) → 100 ≤ n → n < 1000 → length (phrase_of n) ≤ 64
+phrase_short n low high = let short = back (list_all is_value_byte (phrase_of n)) _ (phrase_passes n low high) in grind (arith, nat_tests, short)
+
 valid_head : (m : Answer) → IsWritableReply m → IsResponseHead (head_of m)
 valid_head m h = record {
   minor = omega arith;
@@ -140,8 +143,7 @@ valid_head m h = record {
 
 short_head : (m : Answer) → IsWritableReply m → length (print_response (head_of m)) ≤ 16384
 short_head m h =
-    let phrase = back (list_all is_value_byte (phrase_of m.status)) _ (phrase_passes m.status (omega (arith, h.final)) h.status) in
-    let few : length (phrase_of m.status) ≤ 64 = grind (arith, nat_tests, phrase) in
+    let few = phrase_short m.status (omega (arith, h.final)) h.status in
     let digits : length (decimal (length m.body)) ≤ 19 = length-decimal-le 19 (length m.body) (omega arith) (omega (arith, h.body_fits)) (omega (arith, h.body_fits)) in
     let status : length (decimal m.status) ≡ 3 = ap length (three m.status (omega (arith, h.final)) h.status) in
     subst (λ t. length t ≤ 16384) (sym (sym (append-nil (print_response (head_of m))) ∙ print_with m [])) (simp length-append (omega (arith, few, digits, status)))

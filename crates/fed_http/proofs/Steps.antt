@@ -5,7 +5,7 @@ use Rattle.std.proofs.lemmas.List.{length-take}
 use Rattle.httparse.specs.Ascii.{crlf_bytes}
 use Rattle.fed_http.specs.Waiting.{IsWaiting}
 use Rattle.fed_http.specs.Keeping.{Kept, IsKept, IsKeptAt, IsInBody, IsInLine, IsInChunk}
-use Rattle.fed_http.specs.KeepingParts.{kept_of, HasRoomAt, HasTextRoom, Stepped, StepFails}
+use Rattle.fed_http.specs.KeepingParts.{kept_of, HasRoomAt, HasTextRoom, HasBodyRoom, Stepped, StepFails}
 use Rattle.fed_http.specs.declared.fault.HttpFault.TheVariants.{BadChunk}
 use Rattle.fed_http.specs.declared.message.Kind.{Kind}
 use Rattle.fed_http.specs.declared.place.Place.{Place}
@@ -105,25 +105,25 @@ returned s t rest at now start text body some is room =
       within = omega (arith, some);
       some = λ more. omega arith;
       begun = begun_at BehindReturn t.place now (λ e. cc);
-      room = as_room BehindReturn t (length rest - 1) now (omega (arith, had.0, text.len, text.cap, start.head), omega (arith, had.1, body.len, body.cap));
+      room = as_room BehindReturn t (length rest - 1) now (omega (arith, had.0, text.len, text.cap), omega (arith, had.1, body.len, body.cap));
       kept = kept;
       waits = λ kind bytes x unended. feed_waits kind (kept_of t) (bytes ++ take 1 rest) now (kept kind bytes x);
     }
 
-pub fed : (s t : State) (rest : List ℕ) → s.place ≡ BehindReturn → t.place ≡ InLine → t.at ≡ Size 0 → SameStart s t → t.text.items ≡ take s.head s.text.items → vec_len t.text ≤ vec_len s.text → vec_capacity t.text ≡ vec_capacity s.text → SameBody s t → 0 < length rest
+pub fed : (s t : State) (rest : List ℕ) → s.place ≡ BehindReturn → t.place ≡ InLine → t.at ≡ Size 0 → SameStart s t → t.text.items ≡ [] → vec_len t.text ≤ vec_len s.text → vec_capacity t.text ≡ vec_capacity s.text → SameBody s t → 0 < length rest
     → get_or rest 0 0 ≡ 10 → HasRoomAt s.place s (length rest) → Stepped s t rest 1
-fed s t rest at now begins start cut len cap body some is room =
+fed s t rest at now begins start none len cap body some is room =
     let first = first_is 10 rest some is in
     let had = room_of BehindReturn s (length rest) at room in
     let both : (kind : Kind) (bytes : List ℕ) → IsKept kind (kept_of s) bytes → IsInLine kind (kept_of t) (bytes ++ take 1 rest) × IsWaiting kind (bytes ++ take 1 rest) =
     (λ kind bytes x.
-    let here = feed_on kind (kept_of s) (kept_of t) bytes (at_place BehindReturn kind (kept_of s) bytes at x) start.start start.head cut body.items begins in
+    let here = feed_on kind (kept_of s) (kept_of t) bytes (at_place BehindReturn kind (kept_of s) bytes at x) start.start start.head none body.items begins in
     subst (λ v. IsInLine kind (kept_of t) (bytes ++ v) × IsWaiting kind (bytes ++ v)) first here) in
     record {
       within = omega (arith, some);
       some = λ more. omega arith;
       begun = begun_at InLine t.place now (λ e. cc);
-      room = as_room InLine t (length rest - 1) now (omega (arith, had.0, len, cap, start.head), omega (arith, had.1, body.len, body.cap));
+      room = as_room InLine t (length rest - 1) now (omega (arith, had.0, len, cap), omega (arith, had.1, body.len, body.cap));
       kept = λ kind bytes x. of_place InLine kind (kept_of t) (bytes ++ take 1 rest) now (both kind bytes x).0;
       waits = λ kind bytes x unended. (both kind bytes x).1;
     }
@@ -174,10 +174,10 @@ data_kept : (s t : State) (rest : List ℕ) (left taken : ℕ) → s.place ≡ I
 data_kept s t rest left taken at small within start text body kind bytes x =
     data_on kind (kept_of s) (kept_of t) bytes (take taken rest) left (left - taken) (at_place (InData left) kind (kept_of s) bytes at x).0 (omega (arith, length_taken taken rest within, small)) start.start start.head text.items body.items
 
-data_room : (s t : State) (rest : List ℕ) (taken : ℕ) → taken ≤ length rest → SameStart s t → SameText s t → MoreBody s t (take taken rest) → HasTextRoom s (length rest) × (vec_len s.body + length rest ≤ vec_capacity s.body)
-    → HasTextRoom t (length rest - taken) × (vec_len t.body + (length rest - taken) ≤ vec_capacity t.body)
+data_room : (s t : State) (rest : List ℕ) (taken : ℕ) → taken ≤ length rest → SameStart s t → SameText s t → MoreBody s t (take taken rest) → HasTextRoom s (length rest) × HasBodyRoom s (length rest)
+    → HasTextRoom t (length rest - taken) × HasBodyRoom t (length rest - taken)
 data_room s t rest taken within start text body had =
-    (omega (arith, had.0, text.len, text.cap, start.head), omega (arith, had.1, body.len, body.cap, length_taken taken rest within))
+    (omega (arith, had.0, text.len, text.cap), omega (arith, had.1, body.len, body.cap, length_taken taken rest within))
 
 pub zeros_end : (left : ℕ) → 0 < length (replicate left 0 ++ crlf_bytes)
 zeros_end left = omega (arith, length-append (replicate left 0) crlf_bytes)

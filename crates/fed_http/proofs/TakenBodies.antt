@@ -1,22 +1,19 @@
 -- What is kept of a body after several steps.
-use Rattle.std.proofs.Common.{arith, ◌≡◌, ◌≢◌, ℕ, ◌+◌, ◌-◌, ◌<◌, ◌≤◌, List, [], ◌++◌, length, take, drop, refl, sym, ap, subst, ◌∙◌, append_assoc, append-nil, length-append}
-use Rattle.std.specs.Prelude.{min, vec_len, vec_capacity, Result, Ok, Err, Option, Some, None, IfOk, IfErr, IfSome, IfNone}
+use Rattle.std.proofs.Common.{arith, ◌≡◌, ◌≢◌, ℕ, ◌+◌, ◌-◌, ◌<◌, ◌≤◌, List, ◌++◌, length, take, drop, sym, ap, subst, ◌∙◌, append_assoc, append-nil}
+use Rattle.std.specs.Prelude.{Result, Ok, Err, Option, Some, None, IfOk, IfErr, IfSome, IfNone}
 use Rattle.std.proofs.lemmas.List.{take-append-drop, take_all, length-drop, length-take}
 use Rattle.std.proofs.Math.Seq.{take-append-add}
 use Rattle.std.specs.Coded.{le_prop}
 use Rattle.std.proofs.Math.Logic.{∥∥₁_elim, ∥∥₁_map}
-use Rattle.fed_http.specs.Limits.{max_head}
-use Rattle.fed_http.specs.Head.{print_head}
+use Rattle.fed_http.specs.Limits.{max_body}
 use Rattle.fed_http.specs.Faults.{IsFault}
 use Rattle.fed_http.specs.Waiting.{IsWaiting}
-use Rattle.fed_http.specs.Keeping.{Kept, IsKept, KeepsHead, IsInBody, IsInChunk}
-use Rattle.fed_http.specs.KeepingParts.{kept_of, IsSound, IsSoundFor, HasRoomAt, HasRoomFor, HasTextRoom, Stepped, StepFails, BodyEnds, BodyWaits, Ends, StillWaits, TakeFails, Begun}
+use Rattle.fed_http.specs.Keeping.{Kept, IsKept, IsInBody}
+use Rattle.fed_http.specs.KeepingParts.{kept_of, IsSound, IsSoundFor, HasRoomAt, Stepped, StepFails, BodyEnds, BodyWaits, Ends, StillWaits, TakeFails, Begun}
 use Rattle.fed_http.specs.declared.fault.HttpFault.{HttpFault}
 use Rattle.fed_http.specs.declared.fault.HttpFault.TheVariants.{Memory}
-use Rattle.fed_http.specs.declared.framing.Framing.{Framing}
 use Rattle.fed_http.specs.declared.message.Kind.{Kind}
-use Rattle.fed_http.specs.declared.place.Place.{Place}
-use Rattle.fed_http.specs.declared.place.Place.TheVariants.{InHead, InBody, InLine, InData, BehindData, BehindReturn, InTrailer, Ended}
+use Rattle.fed_http.specs.declared.place.Place.TheVariants.{InHead, InBody, InData, Ended}
 use Rattle.fed_http.specs.declared.state.State.{State}
 use Rattle.fed_http.proofs.Steps.{at_place}
 
@@ -29,6 +26,9 @@ body_left k left at sound = ∥∥₁_elim sound le_prop (λ (kind, (bytes, kept
 
 pub data_left : (k : Kept) (left : ℕ) → k.place ≡ InData left → IsSound k → 0 < left
 data_left k left at sound = ∥∥₁_elim sound le_prop (λ (kind, (bytes, kept)). (at_place (InData left) kind k bytes at kept).1)
+
+pub data_fits : (k : Kept) (left : ℕ) → k.place ≡ InData left → IsSound k → length k.body + left ≤ max_body
+data_fits k left at sound = ∥∥₁_elim sound le_prop (λ (kind, (bytes, kept)). (at_place (InData left) kind k bytes at kept).0.fits)
 
 -- ---- several steps
 
@@ -115,41 +115,6 @@ walk_fails old now rest slice used fault w fails is = record {
       let whole : (bytes ++ take used rest) ++ slice ≡ bytes ++ rest = append_assoc bytes (take used rest) slice ∙ ap (λ v. bytes ++ (take used rest ++ v)) is ∙ ap (λ v. bytes ++ v) (take-append-drop used rest) in
       subst (λ v. IsFault kind v fault) whole (fails.is kind (bytes ++ take used rest) (w.kept kind bytes x));
 }
-
--- ---- the memory that was taken
-
-keeps_within : (kind : Kind) (k : Kept) (bytes : List ℕ) (f : Framing) (line rest : List ℕ) → KeepsHead kind k bytes f line rest → k.head ≤ length k.text
-keeps_within kind k bytes f line rest x = omega (arith, x.len, ap length x.text, length-append (print_head x.head) line)
-
-chunk_within : (kind : Kind) (k : Kept) (bytes : List ℕ) (left : ℕ) (end : List ℕ) → IsInChunk kind k bytes left end → k.head ≤ length k.text
-chunk_within kind k bytes left end x = keeps_within kind k bytes _ _ _ x.keeps.keeps
-
-pub room_now : (s : State) (more : ℕ) → IsSound (kept_of s) → length s.text.items ≡ vec_len s.text → HasRoomFor s.place s more → HasRoomAt s.place s more
-room_now s more sound vec room = by s.place refl room
-  where
-    text_room : s.head ≤ length s.text.items → vec_len s.text + min more max_head ≤ vec_capacity s.text → HasTextRoom s more
-    text_room head room = omega (arith, head, room, vec)
-
-    by : (p : Place) → s.place ≡ p → HasRoomFor p s more → HasRoomAt p s more
-    by InHead at room = tt
-    by (InBody left) at room = room
-    by InLine at room = (text_room (∥∥₁_elim sound le_prop (λ (kind, (bytes, kept)). keeps_within kind (kept_of s) bytes _ _ _ (at_place InLine kind (kept_of s) bytes at kept).keeps.keeps)) room.0, room.1)
-    by (InData left) at room = (text_room (∥∥₁_elim sound le_prop (λ (kind, (bytes, kept)). chunk_within kind (kept_of s) bytes left [] (at_place (InData left) kind (kept_of s) bytes at kept).0)) room.0, room.1)
-    by BehindData at room = (text_room (∥∥₁_elim sound le_prop (λ (kind, (bytes, kept)). chunk_within kind (kept_of s) bytes 0 [] (at_place BehindData kind (kept_of s) bytes at kept))) room.0, room.1)
-    by BehindReturn at room = (text_room (∥∥₁_elim sound le_prop (λ (kind, (bytes, kept)). chunk_within kind (kept_of s) bytes 0 _ (at_place BehindReturn kind (kept_of s) bytes at kept))) room.0, room.1)
-    by InTrailer at room = text_room (∥∥₁_elim sound le_prop (λ (kind, (bytes, kept)). keeps_within kind (kept_of s) bytes _ _ _ (at_place InTrailer kind (kept_of s) bytes at kept).keeps.keeps)) room
-    by Ended at room = tt
-
--- room of both kinds is room at any place
-pub all_room : (p : Place) (s : State) (more : ℕ) → vec_len s.text + min more max_head ≤ vec_capacity s.text → vec_len s.body + more ≤ vec_capacity s.body → HasRoomFor p s more
-all_room InHead s more text body = tt
-all_room (InBody left) s more text body = omega (arith, body)
-all_room InLine s more text body = (text, body)
-all_room (InData left) s more text body = (text, body)
-all_room BehindData s more text body = (text, body)
-all_room BehindReturn s more text body = (text, body)
-all_room InTrailer s more text body = text
-all_room Ended s more text body = tt
 
 -- ---- a whole piece
 

@@ -27,16 +27,15 @@ use Rattle.fed_http.specs.declared.place.Place.TheVariants.{InTrailer}
 use Rattle.fed_http.proofs.LineCounts.{front_in}
 use Rattle.fed_http.proofs.TrailerFronts.{front-section}
 use Rattle.fed_http.proofs.Stays.{reaches_on, trailer_on}
-use Rattle.fed_http.proofs.Keeping.{split_front, text_more, line_is_behind, chunks_more, chunks_as, chunks_reach, reaches_trailer, trailer_waits}
+use Rattle.fed_http.proofs.Keeping.{split_front, text_more, chunks_more, chunks_as, chunks_reach, reaches_trailer, trailer_waits}
 use Rattle.fed_http.proofs.BodySteps.{with_body_is}
 
-slice_is : (kind : Kind) (k : Kept) (bytes more all slice : List ℕ) (x : IsInTrailer kind k bytes) → all ≡ k.text ++ more → slice ≡ drop k.head all → slice ≡ x.line ++ more
-slice_is kind k bytes more all slice x text is =
-    let h = x.keeps.keeps in
-    is ∙ line_is_behind kind k bytes Chunked x.line x.keeps.rest all (x.line ++ more) k.head h refl (text_more kind k bytes more Chunked x.line x.keeps.rest all h text)
+-- the text is the line, with more bytes
+text_is : (kind : Kind) (k : Kept) (bytes more all : List ℕ) (x : IsInTrailer kind k bytes) → all ≡ k.text ++ more → all ≡ x.line ++ more
+text_is kind k bytes more all x text = text_more kind k bytes more Chunked x.line x.keeps.rest all x.keeps.keeps text
 
-length_line : (kind : Kind) (k : Kept) (bytes : List ℕ) (x : IsInTrailer kind k bytes) → length k.text ≡ k.head + length x.line
-length_line kind k bytes x = omega (arith, ap length x.keeps.keeps.text, x.keeps.keeps.len, length-append (print_head x.keeps.keeps.head) x.line)
+length_line : (kind : Kind) (k : Kept) (bytes : List ℕ) (x : IsInTrailer kind k bytes) → length k.text ≡ length x.line
+length_line kind k bytes x = ap length x.keeps.keeps.text
 
 length_section : (slice : List ℕ) (len : ℕ) (t : IsTrailerAt slice len) → len ≡ length (print_section t.fields t.end)
 length_section slice len t = omega (arith, ap length t.whole, length-append (print_section t.fields t.end) (drop len slice), length-drop len slice, t.fits)
@@ -53,51 +52,43 @@ trailer_beyond line more r fields end none trailer e = elim (cases_lt (length li
 
 -- ---- what is known of any bytes
 
-pub record TrailerRoom (k : Kept) : Type 0 where
-  pub head : k.head ≤ length k.text
-  pub line : length k.text < k.head + max_head
-
-pub trailer_room : (k : Kept) → k.place ≡ InTrailer → IsSound k → TrailerRoom k
+pub trailer_room : (k : Kept) → k.place ≡ InTrailer → IsSound k → length k.text < max_head
 trailer_room k at sound =
-    let all = ∥∥₁_elim sound (×_prop le_prop le_prop) (λ (kind, (bytes, kept)).
+    ∥∥₁_elim sound le_prop (λ (kind, (bytes, kept)).
     let x : IsInTrailer kind k bytes = subst (λ p. IsKeptAt p kind k bytes) at kept in
-    let len = length_line kind k bytes x in
-    let a : k.head ≤ length k.text = omega (arith, len) in
-    let b : length k.text < k.head + max_head = omega (arith, len, x.few) in
-    (a, b)) in
-    record { head = all.0; line = all.1 }
+    let few : length k.text < max_head = omega (arith, length_line kind k bytes x, x.few) in
+    few)
 
 pub record TrailerEnds (k : Kept) (more : List ℕ) (len : ℕ) : Type 0 where
-  pub head : k.head ≤ length k.text
-  pub beyond : length k.text < k.head + len
-  pub within : k.head + len ≤ length k.text + length more
+  pub beyond : length k.text < len
+  pub within : len ≤ length k.text + length more
 
-pub trailer_ends_at : (k : Kept) (more all slice : List ℕ) (len : ℕ) → k.place ≡ InTrailer → IsSound k → all ≡ k.text ++ more → slice ≡ drop k.head all → IsTrailerAt slice len → TrailerEnds k more len
-trailer_ends_at k more all slice len at sound text is t =
+pub trailer_ends_at : (k : Kept) (more all : List ℕ) (len : ℕ) → k.place ≡ InTrailer → IsSound k → all ≡ k.text ++ more → IsTrailerAt all len → TrailerEnds k more len
+trailer_ends_at k more all len at sound text t =
     let all_of = ∥∥₁_elim sound (×_prop le_prop le_prop) (λ (kind, (bytes, kept)).
     let x : IsInTrailer kind k bytes = subst (λ p. IsKeptAt p kind k bytes) at kept in
     let section = print_section t.fields t.end in
-    let whole : x.line ++ more ≡ section ++ drop len slice = sym (slice_is kind k bytes more all slice x text is) ∙ t.whole in
-    let beyond = trailer_beyond x.line more (drop len slice) t.fields t.end x.none t.trailer whole in
-    let size = length_section slice len t in
+    let whole : x.line ++ more ≡ section ++ drop len all = sym (text_is kind k bytes more all x text) ∙ t.whole in
+    let beyond = trailer_beyond x.line more (drop len all) t.fields t.end x.none t.trailer whole in
+    let size = length_section all len t in
     let length_is = length_line kind k bytes x in
-    let a : length k.text < k.head + len = omega (arith, length_is, beyond, size) in
-    let b : k.head + len ≤ length k.text + length more = omega (arith, length_is, size, ap length whole, length-append x.line more, length-append section (drop len slice)) in
+    let a : length k.text < len = omega (arith, length_is, beyond, size) in
+    let b : len ≤ length k.text + length more = omega (arith, length_is, size, ap length whole, length-append x.line more, length-append section (drop len all)) in
     (a, b)) in
-    record { head = (trailer_room k at sound).head; beyond = all_of.0; within = all_of.1 }
+    record { beyond = all_of.0; within = all_of.1 }
 
 -- ---- no end yet
 
 -- where the place tells so
-pub trailer_goes : (kind : Kind) (k : Kept) (bytes more all slice : List ℕ) (before : ℕ) (new : TextPlace) → IsInTrailer kind k bytes → all ≡ k.text ++ more → slice ≡ drop k.head all → before ≡ length k.text - k.head → GoesOnTo k.at before more new → LacksTrailer slice
-trailer_goes kind k bytes more all slice before new x text is count g =
+pub trailer_goes : (kind : Kind) (k : Kept) (bytes more all : List ℕ) (before : ℕ) (new : TextPlace) → IsInTrailer kind k bytes → all ≡ k.text ++ more → before ≡ length k.text → GoesOnTo k.at before more new → LacksTrailer all
+trailer_goes kind k bytes more all before new x text count g =
     let short : length (x.line ++ more) < max_head = omega (arith, g.short, count, length_line kind k bytes x, length-append x.line more) in
-    subst LacksTrailer (sym (slice_is kind k bytes more all slice x text is)) (trailer_unfinished (x.line ++ more) new (late_on (FollowsSection 0) x.line more k.at new g.few g.late g.follows x.at) g.known short)
+    subst LacksTrailer (sym (text_is kind k bytes more all x text)) (trailer_unfinished (x.line ++ more) new (late_on (FollowsSection 0) x.line more k.at new g.few g.late g.follows x.at) g.known short)
 
-pub trailer_more : (kind : Kind) (k j : Kept) (bytes more slice : List ℕ) → IsInTrailer kind k bytes → j.start ≡ k.start → j.head ≡ k.head → j.body ≡ k.body → j.text ≡ k.text ++ more → slice ≡ drop k.head j.text → LacksTrailer slice
+pub trailer_more : (kind : Kind) (k j : Kept) (bytes more : List ℕ) → IsInTrailer kind k bytes → j.start ≡ k.start → j.head ≡ k.head → j.body ≡ k.body → j.text ≡ k.text ++ more → LacksTrailer j.text
     → ((before : List ℕ) → IsTrailerPlace before k.at → IsTrailerPlace (before ++ more) j.at) → IsInTrailer kind j (bytes ++ more) × IsWaiting kind (bytes ++ more)
-trailer_more kind k j bytes more slice x start head body text is lacks on =
-    let at = subst LacksTrailer (slice_is kind k bytes more j.text slice x text is) lacks in
+trailer_more kind k j bytes more x start head body text lacks on =
+    let at = subst LacksTrailer (text_is kind k bytes more j.text x text) lacks in
     let printed = print_chunk_line x.last in
     let read = chunks_more kind k j bytes more x.line (printed ++ x.line) (x.line ++ more) x.keeps start head (text_more kind k bytes more Chunked x.line x.keeps.rest j.text x.keeps.keeps text) in
     let next = chunks_as kind j (bytes ++ more) (x.line ++ more) ((printed ++ x.line) ++ more) (printed ++ (x.line ++ more)) read (append_assoc printed x.line more) in (
@@ -107,12 +98,12 @@ trailer_more kind k j bytes more slice x start head body text is lacks on =
 
 -- ---- faults
 
-pub trailer_fault : (kind : Kind) (k : Kept) (bytes more all slice : List ℕ) (fault : HttpFault) → IsInTrailer kind k bytes → all ≡ k.text ++ more → slice ≡ drop k.head all → IsTrailerFault slice fault → IsFault kind (bytes ++ more) fault
-trailer_fault kind k bytes more all slice fault x text is told =
+pub trailer_fault : (kind : Kind) (k : Kept) (bytes more all : List ℕ) (fault : HttpFault) → IsInTrailer kind k bytes → all ≡ k.text ++ more → IsTrailerFault all fault → IsFault kind (bytes ++ more) fault
+trailer_fault kind k bytes more all fault x text told =
     let rest = x.keeps.rest ++ more in
     let body = reaches_on kind bytes x.keeps.rest more Chunked (chunks_reach kind k bytes x.line (print_chunk_line x.last ++ x.line) x.keeps) in
     let trailer = trailer_on x.keeps.rest x.line more (reaches_trailer kind k bytes x.line x.line x.last x.keeps x.is_last) in
-    by rest fault body trailer (subst (λ v. IsTrailerFault v fault) (slice_is kind k bytes more all slice x text is) told)
+    by rest fault body trailer (subst (λ v. IsTrailerFault v fault) (text_is kind k bytes more all x text) told)
   where
     by : (rest : List ℕ) (f : HttpFault) → ReachesBody kind (bytes ++ more) Chunked rest → ReachesTrailer rest (x.line ++ more) → IsTrailerFault (x.line ++ more) f → IsFault kind (bytes ++ more) f
     by rest Memory body trailer told = tt
@@ -132,18 +123,18 @@ trailer_fault_other slice HasFailed told e = told
 
 -- ---- its end
 
-pub trailer_ends : (kind : Kind) (k j : Kept) (bytes more all slice : List ℕ) (len : ℕ) → IsInTrailer kind k bytes → all ≡ k.text ++ more → slice ≡ drop k.head all → IsTrailerAt slice len → j.start ≡ k.start → j.body ≡ k.body
-    → HasEnded kind j (bytes ++ take (len - (length k.text - k.head)) more)
-trailer_ends kind k j bytes more all slice len x text is t start body =
-    let u = take (len - (length k.text - k.head)) more in
+pub trailer_ends : (kind : Kind) (k j : Kept) (bytes more all : List ℕ) (len : ℕ) → IsInTrailer kind k bytes → all ≡ k.text ++ more → IsTrailerAt all len → j.start ≡ k.start → j.body ≡ k.body
+    → HasEnded kind j (bytes ++ take (len - length k.text) more)
+trailer_ends kind k j bytes more all len x text t start body =
+    let u = take (len - length k.text) more in
     let h = x.keeps.keeps.head in
     let cs = x.keeps.chunks in
     let printed = print_chunk_line x.last in
     let section = print_section t.fields t.end in
-    let whole : x.line ++ more ≡ section ++ drop len slice = sym (slice_is kind k bytes more all slice x text is) ∙ t.whole in
-    let beyond = trailer_beyond x.line more (drop len slice) t.fields t.end x.none t.trailer whole in
-    let count : length section - length x.line ≡ len - (length k.text - k.head) = omega (arith, length_section slice len t, length_line kind k bytes x) in
-    let ends : section ≡ x.line ++ u = split_front x.line more section (drop len slice) whole (omega (arith, beyond)) ∙ ap (λ n. x.line ++ take n more) count in
+    let whole : x.line ++ more ≡ section ++ drop len all = sym (text_is kind k bytes more all x text) ∙ t.whole in
+    let beyond = trailer_beyond x.line more (drop len all) t.fields t.end x.none t.trailer whole in
+    let count : length section - length x.line ≡ len - length k.text = omega (arith, length_section all len t, length_line kind k bytes x) in
+    let ends : section ≡ x.line ++ u = split_front x.line more section (drop len all) whole (omega (arith, beyond)) ∙ ap (λ n. x.line ++ take n more) count in
     let b : ChunkedBody = record { chunks = cs; last = x.last; trailers = t.fields; end = t.end } in
     let rest_is : x.keeps.rest ++ u ≡ print_chunked b =
     front-append x.keeps.rest (print_chunks cs) (printed ++ x.line) u x.keeps.reads.whole ∙ grouped (print_chunks cs) printed x.line u ∙ ap (λ v. (print_chunks cs ++ printed) ++ v) (sym ends) in

@@ -17,8 +17,8 @@ use Rattle.fed_http.specs.declared.place.Place.{Place}
 use Rattle.fed_http.specs.declared.text_place.TextPlace.{TextPlace}
 use Rattle.fed_http.specs.declared.place.Place.TheVariants.{InHead, InBody, InLine, InData, BehindData, BehindReturn, InTrailer, Ended}
 
--- where in the message the bytes end, and where in its head, a chunk line or the trailer; how many bytes its head has; its head, and behind it
--- the line of a chunk or the trailer; the message of the head, without its body; the body so far
+-- where in the message the bytes end, and where in its head, a chunk line or the trailer; how many bytes its head has, once it is whole; the head,
+-- the line of a chunk or the trailer, as far as it came; the message of the head, without its body; the body so far
 pub record Kept : Type 0 where
   pub place : Place
   pub at : TextPlace
@@ -32,7 +32,7 @@ abbrev pub with_body : Message → List ℕ → Message
 with_body (Request r) body = Request (record { method = r.method; target = r.target; fields = r.fields; body = body })
 with_body (Reply r) body = Reply (record { status = r.status; body = body })
 
--- the bytes are a head, whose body is framed so, and then rest; of them the head is kept, and line behind it
+-- the bytes are a head, whose body is framed so, and then rest; of them the message of the head is kept, and line behind it
 pub record KeepsHead (kind : Kind) (k : Kept) (bytes : List ℕ) (framing : Framing) (line rest : List ℕ) : Type 0 where
   pub head : Head
   pub valid : IsHeadOf kind head
@@ -41,11 +41,12 @@ pub record KeepsHead (kind : Kind) (k : Kept) (bytes : List ℕ) (framing : Fram
   pub framed : head_framing head ≡ Some framing
   pub start : k.start ≡ Some (message_of head [])
   pub len : k.head ≡ length (print_head head)
-  pub text : k.text ≡ print_head head ++ line
+  pub text : k.text ≡ line
   pub whole : bytes ≡ print_head head ++ rest
 
 -- the head is not whole
 pub record IsInHead (kind : Kind) (k : Kept) (bytes : List ℕ) : Type 0 where
+  pub len : k.head ≡ 0
   pub text : k.text ≡ bytes
   pub body : k.body ≡ []
   pub few : length bytes < max_head

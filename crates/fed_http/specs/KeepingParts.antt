@@ -68,32 +68,26 @@ IsSoundFor kind k = ∥ ((bytes : List ℕ) × IsKept kind k bytes) ∥₁
 pub record IsReading (kind : Kind) (s : State) (failed : Bool) : Type 0 where
   pub sound : failed ≡ false → (bytes : List ℕ) × (IsKept kind (kept_of s) bytes × HasNoText kind bytes)
   pub unended : failed ≡ false → s.place ≢ Ended
+  pub head : failed ≡ true → s.head ≡ 0
   pub text : failed ≡ true → s.text.items ≡ []
   pub body : failed ≡ true → s.body.items ≡ []
 
--- so much memory was taken for what so many bytes bring at this place
-abbrev pub HasRoomFor : Place → State → ℕ → Type 0
-HasRoomFor InHead s more = ⊤
-HasRoomFor (InBody left) s more = vec_len s.body + min left more ≤ vec_capacity s.body
-HasRoomFor InLine s more = (vec_len s.text + min more max_head ≤ vec_capacity s.text) × (vec_len s.body + more ≤ vec_capacity s.body)
-HasRoomFor (InData left) s more = (vec_len s.text + min more max_head ≤ vec_capacity s.text) × (vec_len s.body + more ≤ vec_capacity s.body)
-HasRoomFor BehindData s more = (vec_len s.text + min more max_head ≤ vec_capacity s.text) × (vec_len s.body + more ≤ vec_capacity s.body)
-HasRoomFor BehindReturn s more = (vec_len s.text + min more max_head ≤ vec_capacity s.text) × (vec_len s.body + more ≤ vec_capacity s.body)
-HasRoomFor InTrailer s more = vec_len s.text + min more max_head ≤ vec_capacity s.text
-HasRoomFor Ended s more = ⊤
-
 -- there is memory for what so many bytes bring to the text
 abbrev pub HasTextRoom : State → ℕ → Type 0
-HasTextRoom s more = min (vec_len s.text + more) (s.head + max_head) ≤ vec_capacity s.text
+HasTextRoom s more = min (vec_len s.text + more) max_head ≤ vec_capacity s.text
+
+-- there is memory for what so many bytes bring to a body in chunks
+abbrev pub HasBodyRoom : State → ℕ → Type 0
+HasBodyRoom s more = min (vec_len s.body + more) max_body ≤ vec_capacity s.body
 
 -- there is memory for what so many bytes bring at this place
 abbrev pub HasRoomAt : Place → State → ℕ → Type 0
 HasRoomAt InHead s more = ⊤
 HasRoomAt (InBody left) s more = vec_len s.body + min left more ≤ vec_capacity s.body
-HasRoomAt InLine s more = HasTextRoom s more × (vec_len s.body + more ≤ vec_capacity s.body)
-HasRoomAt (InData left) s more = HasTextRoom s more × (vec_len s.body + more ≤ vec_capacity s.body)
-HasRoomAt BehindData s more = HasTextRoom s more × (vec_len s.body + more ≤ vec_capacity s.body)
-HasRoomAt BehindReturn s more = HasTextRoom s more × (vec_len s.body + more ≤ vec_capacity s.body)
+HasRoomAt InLine s more = HasTextRoom s more × HasBodyRoom s more
+HasRoomAt (InData left) s more = HasTextRoom s more × HasBodyRoom s more
+HasRoomAt BehindData s more = HasTextRoom s more × HasBodyRoom s more
+HasRoomAt BehindReturn s more = HasTextRoom s more × HasBodyRoom s more
 HasRoomAt InTrailer s more = HasTextRoom s more
 HasRoomAt Ended s more = ⊤
 

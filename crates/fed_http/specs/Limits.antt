@@ -13,7 +13,7 @@ max_fields = 64
 abbrev pub max_body : ℕ
 max_body = 16777216
 
--- the most bytes that a reader keeps: a body, a head, and a chunk line or a trailer
+-- the most bytes that a reader keeps: a head or its parts, a chunk line or a trailer, and a body
 abbrev pub max_held : ℕ
 max_held = 16809984
 

@@ -1,5 +1,5 @@
 -- The bytes of messages as this server writes them (RFC 9112, sections 2.1, 3 and 4).
-use Rattle.std.specs.Prelude.{◌≡◌, ◌<◌, ◌≤◌, ◌&&◌, ℕ, List, [], ◌∷◌, ◌++◌, Some, All, IsUtf8, codes, decimal, length, nat_le, nat_lt, unwrap_or, if◌then◌else◌}
+use Rattle.std.specs.Prelude.{◌≡◌, ◌<◌, ◌≤◌, ◌&&◌, ℕ, List, [], ◌∷◌, ◌++◌, Some, All, IsUtf8, bytes_eq, codes, decimal, length, nat_le, nat_lt, unwrap_or, if◌then◌else◌}
 use Rattle.std.specs.List.{flat_map}
 use Rattle.http.specs.StatusCode.{reason_phrase}
 use Rattle.httparse.specs.Grammar.{IsToken, AllPass, is_uri_byte, is_value_byte, trim_ows}
@@ -45,6 +45,14 @@ status_line status phrase = codes "HTTP/1.1 " ++ (decimal status ++ (codes " " +
 
 abbrev pub reply_bytes : Answer → List ℕ
 reply_bytes m = status_line m.status (phrase_of m.status) ++ behind_start (reply_fields m.body) m.body
+
+-- up to its body
+abbrev pub reply_head : Answer → List ℕ
+reply_head m = status_line m.status (phrase_of m.status) ++ behind_start (reply_fields m.body) []
+
+-- as the reply to a request of this method: to a HEAD goes the head alone, which gives the length of the body (RFC 9110, section 9.3.2)
+abbrev pub reply_bytes_to : List ℕ → Answer → List ℕ
+reply_bytes_to method m = if bytes_eq method (codes "HEAD") then reply_head m else reply_bytes m
 
 -- ---- what is read back
 

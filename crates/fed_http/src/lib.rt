@@ -21,6 +21,7 @@
 //! - `reader`: `Reader`, which reads messages from a stream of pieces
 //! - `laws`: what holds of all messages and their texts, and `read_message`, the plain program of it
 //! - `writing`: from messages to their bytes, and `phrase`, the phrase of a status
+//! - `front`: the first bytes of a reply, gathered to be written at once
 //! - `sending`: from a reply to a writer, without memory
 //! - `x_matrix`: `XMatrix`, what the Authorization field of a request says, and what is signed for a request
 #![tactic(auto)]
@@ -31,6 +32,7 @@ mod fault;
 mod field;
 mod finding;
 mod framing;
+mod front;
 mod head;
 mod laws;
 mod limits;
@@ -59,7 +61,7 @@ pub use message::{Kind, Message};
 pub use reader::Reader;
 pub use reply::Reply;
 pub use request::Request;
-pub use sending::{send_reply, write_whole};
+pub use sending::{send_reply, send_reply_to, write_whole};
 pub use writing::{phrase, write_reply, write_request};
 pub use x_matrix::{
     AuthFault, SignFault, XMatrix, is_signed, one_header, request_text, sign, sign_request,

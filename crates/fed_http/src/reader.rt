@@ -19,8 +19,10 @@ use std::marker::Model;
 /// - Of chunks the extensions are dropped, and so is the trailer, whose limits are those of a head (section 7.1). A chunk line has at
 ///   most `MAX_HEAD` bytes. A body has at most `MAX_BODY`.
 ///
-/// Of the bytes since the last message it keeps the head, the body so far, and a chunk line or a trailer that has not ended: `held` says how
-/// many bytes these are. It looks at each byte a few times, in whatever pieces they come, and at none past a limit.
+/// Of the bytes since the last message it keeps the head so far, and once this is whole only its parts, as a message has them; the body so
+/// far; and a chunk line or a trailer that has not ended. `held` says how many bytes these are. It looks at each byte a few times, in whatever
+/// pieces they come, and at none past a limit. For a body in chunks it takes memory for as many bytes as the piece has, or for as many as the
+/// body may still have, if these are fewer.
 ///
 /// Contracts say of what it is given by the bytes that it stands for: those since it was made, or since it last gave a message. Some such
 /// bytes there are until it has failed.
@@ -124,10 +126,10 @@ impl Reader {
         }
     }
 
-    /// How many bytes of the stream are kept: those of the head, of the body so far, and of a chunk line or a trailer that has not ended. They
-    /// are at most 16,809,984: `MAX_BODY` and twice `MAX_HEAD`.
+    /// How many bytes of the stream are kept: those of the head, which is kept once, as bytes or as its parts; of the body so far; and of the
+    /// last chunk line or a trailer that has not ended. They are at most 16,809,984: `MAX_BODY` and twice `MAX_HEAD`.
     pub fn held(&self) -> usize
-        ensures kept { result ≡ length self.now.kept.text + length self.now.kept.body }
+        ensures kept { result ≡ self.now.kept.head + (length self.now.kept.text + length self.now.kept.body) }
         ensures bound { result ≤ 16809984 }
     {
         self.state.held()

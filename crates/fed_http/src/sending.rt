@@ -1,45 +1,64 @@
 // From a reply to a writer, without memory.
+ghost use Rattle.std.specs.Prelude.{◌≡◌, ◌≢◌, IfErr};
+ghost use Rattle.std.specs.IoError.{error_kind};
 ghost use Rattle.fed_http.specs.Sending.{WritesWhole};
-ghost use Rattle.fed_http.specs.Writing.{phrase_of, reply_bytes, status_line};
+ghost use Rattle.fed_http.specs.Writing.{reply_bytes, reply_bytes_to, reply_head};
 
+use crate::front::Front;
 use crate::reply::Reply;
 use crate::writing::phrase;
 use std::io;
 use std::io::{ErrorKind, Write};
 
-/// Writes the bytes of a reply, which are those of `write_reply`, in parts and without memory. It does not flush, and each part is a write
-/// of its own, so that a writer whose writes are dear wants a buffer.
+/// Writes the bytes of a reply, which are those of `write_reply`, without memory. It does not flush. A reply of at most 1,024 bytes is one write,
+/// where the writer takes all that it is given; of a longer one the first 1,024 are, and then all the others.
 ///
 /// # Errors
 ///
-/// That of the write that failed; `WriteZero` where the writer takes nothing, and `TimedOut` where it is interrupted without end. What was
-/// written is a front of the bytes.
+/// That of the write that failed, which is never `Interrupted`; `WriteZero` where the writer takes nothing, and `TimedOut` where it is interrupted
+/// without end. What was written is a front of the bytes.
 pub fn send_reply<W: Write>(writer: &mut W, reply: &Reply) -> io::Result<()>
-    ensures { WritesWhole (W.contents writer.old) (W.contents writer.new) (reply_bytes reply.now) result }
+    ensures written { WritesWhole (W.contents writer.old) (W.contents writer.new) (reply_bytes reply.now) result }
+    ensures made_again { IfErr result (λ error. error_kind error ≢ ErrorKind.Interrupted) }
 {
+    let mut front = head_of(reply);
     let body = reply.body();
-    let mut digits = itoa::Buffer::new();
-    let length = digits.format(body.len());
-    send_start(writer, reply.status())?;
-    write_whole(
-        writer,
-        b"Content-Type: application/json\r\nContent-Length: ",
-    )?;
-    write_whole(writer, length.as_bytes())?;
-    write_whole(writer, b"\r\nConnection: close\r\n\r\n")?;
-    write_whole(writer, body)
+    let taken = front.push_some(body);
+    write_whole(writer, front.as_slice())?;
+    write_whole(writer, &body[taken..])
 }
 
-// Writes the status line of a reply.
-fn send_start<W: Write>(writer: &mut W, status: u16) -> io::Result<()>
-    ensures { WritesWhole (W.contents writer.old) (W.contents writer.new) (status_line status (phrase_of status)) result }
+/// Writes the reply to a request of this method: to a HEAD the head alone, which is that of the whole reply (RFC 9110, section 9.3.2), and to any
+/// other all of it, as `send_reply` does.
+///
+/// # Errors
+///
+/// Those of `send_reply`.
+pub fn send_reply_to<W: Write>(writer: &mut W, method: &str, reply: &Reply) -> io::Result<()>
+    ensures written { WritesWhole (W.contents writer.old) (W.contents writer.new) (reply_bytes_to method.now reply.now) result }
+    ensures made_again { IfErr result (λ error. error_kind error ≢ ErrorKind.Interrupted) }
 {
-    let mut digits = itoa::Buffer::new();
-    write_whole(writer, b"HTTP/1.1 ")?;
-    write_whole(writer, digits.format(status).as_bytes())?;
-    write_whole(writer, b" ")?;
-    write_whole(writer, phrase(status).as_bytes())?;
-    write_whole(writer, b"\r\n")
+    if method == "HEAD" {
+        return write_whole(writer, head_of(reply).as_slice());
+    }
+    send_reply(writer, reply)
+}
+
+// The bytes of a reply up to its body.
+fn head_of(reply: &Reply) -> Front
+    ensures { result ≡ reply_head reply.now }
+{
+    let mut status = itoa::Buffer::new();
+    let mut length = itoa::Buffer::new();
+    let mut head = Front::new();
+    head.push(b"HTTP/1.1 ");
+    head.push(status.format(reply.status()).as_bytes());
+    head.push(b" ");
+    head.push(phrase(reply.status()).as_bytes());
+    head.push(b"\r\nContent-Type: application/json\r\nContent-Length: ");
+    head.push(length.format(reply.body().len()).as_bytes());
+    head.push(b"\r\nConnection: close\r\n\r\n");
+    head
 }
 
 /// Writes all the bytes. Unlike `write_all` it says what was written where a write fails. A turn writes a byte or is interrupted, and no
@@ -47,10 +66,11 @@ fn send_start<W: Write>(writer: &mut W, status: u16) -> io::Result<()>
 ///
 /// # Errors
 ///
-/// That of the write that failed; `WriteZero` where the writer takes nothing, and `TimedOut` where it is interrupted without end. What was
-/// written is a front of the bytes.
+/// That of the write that failed, which is never `Interrupted`; `WriteZero` where the writer takes nothing, and `TimedOut` where it is interrupted
+/// without end. What was written is a front of the bytes.
 pub fn write_whole<W: Write>(writer: &mut W, bytes: &[u8]) -> io::Result<()>
-    ensures { WritesWhole (W.contents writer.old) (W.contents writer.new) bytes.now result }
+    ensures written { WritesWhole (W.contents writer.old) (W.contents writer.new) bytes.now result }
+    ensures made_again { IfErr result (λ error. error_kind error ≢ ErrorKind.Interrupted) }
 {
     let mut rest = bytes;
     for _ in 0..u64::MAX {

@@ -4,7 +4,7 @@ ghost use Rattle.fed_http.specs.Limits.{max_head, max_body, max_held};
 ghost use Rattle.fed_http.specs.Faults.{IsFault};
 ghost use Rattle.fed_http.specs.TextPlaces.{HeadGoesOnTo};
 ghost use Rattle.fed_http.specs.Keeping.{IsKept, with_body};
-ghost use Rattle.fed_http.specs.KeepingParts.{kept_of, IsSound, IsSoundFor, HasRoomAt, HasRoomFor, Stepped, StepFails, BodyEnds, BodyWaits, Begun, StillWaits, Ends, TakeFails, Opens, LacksHead, IsPlaceBehind, IsLargeFraming};
+ghost use Rattle.fed_http.specs.KeepingParts.{kept_of, IsSound, IsSoundFor, HasRoomAt, Stepped, StepFails, BodyEnds, BodyWaits, Begun, StillWaits, Ends, TakeFails, Opens, LacksHead, IsPlaceBehind, IsLargeFraming};
 ghost use Rattle.fed_http.specs.declared.place.Place.TheVariants.{InHead, InBody, InLine, InData, BehindData, BehindReturn, InTrailer, Ended};
 
 use crate::chunks::{find_line, find_trailer};
@@ -33,7 +33,7 @@ pub struct State {
     pub at: TextPlace,
     /// How many bytes the head has, once it is whole.
     pub head: usize,
-    /// The head, and behind it the line of a chunk, or the trailer.
+    /// The head, the line of a chunk or the trailer, as far as it came. A head that is whole goes: its parts are in `start`.
     pub text: Vec<u8>,
     /// The message of the head, without its body.
     pub start: Option<Message>,
@@ -148,7 +148,7 @@ impl State {
         };
         let place = place_behind(opening.framing)?;
         self.make_room(place, more)?;
-        self.text.truncate(opening.len);
+        self.text.clear();
         self.head = opening.len;
         self.start = Some(opening.message);
         self.place = place;
@@ -160,7 +160,7 @@ impl State {
     #[inline(always)]
     fn make_room(&mut self, place: Place, more: usize) -> Result<(), NoMemory>
         ensures same { kept_of self.new ≡ kept_of self.old }
-        ensures room { IfOk result (λ _. HasRoomFor place self.new more) }
+        ensures room { IfOk result (λ _. HasRoomAt place self.new more) }
     {
         match place {
             Place::InBody { left } => {
@@ -174,7 +174,8 @@ impl State {
             Place::InHead | Place::Ended => Ok(()),
             Place::InLine | Place::InData { .. } | Place::BehindData | Place::BehindReturn => {
                 self.text.reserve(more.min(MAX_HEAD))?;
-                self.body.reserve(more)?;
+                self.body
+                    .reserve(more.min(MAX_BODY.saturating_sub(self.body.len())))?;
                 Ok(())
             }
         }
@@ -276,15 +277,15 @@ impl State {
         ensures stepped { IfOk result (Stepped self.old self.new rest.now) }
         ensures fails { IfErr result (StepFails self.old rest.now) }
     {
-        let before = self.text.len() - self.head;
-        let taken = line_len(rest).min(MAX_HEAD - before);
+        let before = self.text.len();
+        let taken = line_len(rest, MAX_HEAD - before);
         let more = &rest[..taken];
         extend(&mut self.text, more);
         if let Some(at) = self.at.goes_on(before, more) {
             self.at = at;
             return Ok(taken);
         }
-        let Some(line) = find_line(&self.text[self.head..])? else {
+        let Some(line) = find_line(&self.text)? else {
             self.at = self.at.over(more);
             return Ok(taken);
         };
@@ -293,12 +294,12 @@ impl State {
         }
         let used = line.len - before;
         if line.size == 0 {
-            self.text.truncate(self.head);
+            self.text.clear();
             self.place = Place::InTrailer;
             self.at = TextPlace::LineStart { fields: 0 };
             return Ok(used);
         }
-        self.text.truncate(self.head + line.len);
+        self.text.truncate(line.len);
         self.place = Place::InData {
             left: line.size as usize,
         };
@@ -310,6 +311,7 @@ impl State {
     fn take_data(&mut self, left: usize, rest: &[u8]) -> usize
         requires some { 0 < left }
         requires at { self.old.place ≡ InData left }
+        requires sound { IsSound (kept_of self.old) }
         requires room { HasRoomAt self.old.place self.old (length rest.now) }
         ensures stepped { Stepped self.old self.new rest.now result }
         ensures all { length rest.now < left → (result ≡ length rest.now) × (self.new.place ≡ InData (left - length rest.now)) }
@@ -354,7 +356,7 @@ impl State {
         if rest[0] != b'\n' {
             return Err(HttpFault::BadChunk);
         }
-        self.text.truncate(self.head);
+        self.text.clear();
         self.place = Place::InLine;
         self.at = TextPlace::Size { digits: 0 };
         Ok(1)
@@ -368,15 +370,15 @@ impl State {
         ensures stepped { IfOk result (Stepped self.old self.new rest.now) }
         ensures fails { IfErr result (StepFails self.old rest.now) }
     {
-        let before = self.text.len() - self.head;
-        let taken = line_len(rest).min(MAX_HEAD - before);
+        let before = self.text.len();
+        let taken = line_len(rest, MAX_HEAD - before);
         let more = &rest[..taken];
         extend(&mut self.text, more);
         if let Some(at) = self.at.goes_on(before, more) {
             self.at = at;
             return Ok(taken);
         }
-        match find_trailer(&self.text[self.head..])? {
+        match find_trailer(&self.text)? {
             Some(len) => {
                 self.place = Place::Ended;
                 Ok(len - before)
@@ -408,6 +410,7 @@ impl State {
 
     /// Frees the memory.
     pub fn let_go(&mut self, alloc: Global)
+        ensures head { self.new.head ≡ 0 }
         ensures text { self.new.text.items ≡ [] }
         ensures body { self.new.body.items ≡ [] }
     {
@@ -419,12 +422,12 @@ impl State {
         self.body = Vec::new(alloc);
     }
 
-    /// How many bytes are kept.
+    /// How many bytes are kept. The parts of a head count as the head, which has no fewer bytes.
     pub fn held(&self) -> usize
-        requires { length self.now.text.items + length self.now.body.items ≤ max_held }
-        ensures { result ≡ length self.now.text.items + length self.now.body.items }
+        requires { self.now.head + (length self.now.text.items + length self.now.body.items) ≤ max_held }
+        ensures { result ≡ self.now.head + (length self.now.text.items + length self.now.body.items) }
     {
-        self.text.len() + self.body.len()
+        self.head + (self.text.len() + self.body.len())
     }
 }
 
@@ -474,13 +477,15 @@ fn append(to: &mut Vec<u8>, block: &[u8])
     }
 }
 
-// How many bytes there are up to the end of the first line.
-fn line_len(bytes: &[u8]) -> usize
+// How many bytes there are up to the end of the first line, within this many, behind which none is looked at.
+fn line_len(bytes: &[u8], limit: usize) -> usize
     ensures within { result ≤ length bytes.now }
-    ensures some { 0 < length bytes.now → 0 < result }
+    ensures limit { result ≤ limit }
+    ensures some { 0 < length bytes.now → 0 < limit → 0 < result }
 {
-    match bytes.iter().position(|byte| *byte == b'\n') {
+    let first = &bytes[..bytes.len().min(limit)];
+    match first.iter().position(|byte| *byte == b'\n') {
         Some(end) => end + 1,
-        None => bytes.len(),
+        None => first.len(),
     }
 }

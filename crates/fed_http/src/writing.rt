@@ -1,5 +1,5 @@
 // From messages to their bytes.
-ghost use Rattle.std.specs.Prelude.{◌≡◌, ◌++◌, IfOk, OnOk};
+ghost use Rattle.std.specs.Prelude.{◌≡◌, ◌≤◌, ◌++◌, length, IfOk, OnOk};
 ghost use Rattle.std.specs.List.{flat_map};
 ghost use Rattle.fed_http.specs.Text.{IsReplyText, IsRequestText};
 ghost use Rattle.fed_http.specs.Writing.{IsWritable, IsWritableReply, field_line, line_end, phrase_of, reply_bytes, request_bytes, status_line};
@@ -60,9 +60,10 @@ fn push_status_line(text: &mut Vec<u8>, status: u16) -> Result<(), NoMemory>
 }
 
 /// The phrase of a status (RFC 9110, section 15), as `Not Found` for 404, and empty where it has none. It is the one that the crate `http`
-/// has, which for 413 is the older `Payload Too Large`. It takes no memory.
+/// has, which for 413 is the older `Payload Too Large`. It takes no memory, and has at most 64 bytes.
 pub fn phrase(status: u16) -> &'static str
-    ensures { result.now ≡ phrase_of status }
+    ensures phrase { result.now ≡ phrase_of status }
+    ensures short { length result.now ≤ 64 }
 {
     match StatusCode::from_u16(status) {
         Ok(status) => status.canonical_reason().unwrap_or(""),

@@ -7,26 +7,26 @@ use Rattle.fed_http.proofs.sending.write_whole.Goals as goal
 pub loop-init : goal.loop-init
 loop-init g c = ([], refl, appends_none _)
 
-pub returns-then-is_empty : goal.returns-then-is_empty
-returns-then-is_empty g c =
+pub returns-then-is_empty-clause-written : goal.returns-then-is_empty-clause-written
+returns-then-is_empty-clause-written g c =
     let (front, split, appended) = c.loop.invariant in
     let rest = c.loop.rest.now in
     let empty : rest ≡ [] = drop_of_length-le rest {i = 0} (search rules) in
     subst (Appends _ _) (sym (split ∙ ap (λ l. front ++ l) empty ∙ append-nil front)) appended
 
-pub returns-in-Ok-eq0 : goal.returns-in-Ok-eq0
-returns-in-Ok-eq0 g c =
+pub returns-in-Ok-eq0-clause-written : goal.returns-in-Ok-eq0-clause-written
+returns-in-Ok-eq0-clause-written g c =
     let (front, split, appended) = c.loop.invariant in
     let rest = c.loop.rest.now in
     (front ++ take 0 rest, drop 0 rest, moves_front _ front rest 0 split, appends_both _ _ _ _ _ appended (search rules))
 
-pub returns-then-ne : goal.returns-then-ne
-returns-then-ne g c =
+pub returns-then-ne-clause-written : goal.returns-then-ne-clause-written
+returns-then-ne-clause-written g c =
     let (front, split, appended) = c.loop.invariant in
     (front, c.loop.rest.now, split, appends_kept _ _ _ _ appended (search rules))
 
-pub returns : goal.returns
-returns g c =
+pub returns-clause-written : goal.returns-clause-written
+returns-clause-written g c =
     let (front, split, appended) = c.loop.invariant in
     (front, c.loop.rest.now, split, appended)
 

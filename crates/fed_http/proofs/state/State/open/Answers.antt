@@ -1,9 +1,6 @@
-use Rattle.std.proofs.Common.{arith, ◌≡◌, ◌≤◌, [], length, take, drop, refl, ap, subst, ◌∙◌, Some}
-use Rattle.std.specs.Prelude.{vec_len}
-use Rattle.fed_http.specs.Head.{print_head}
+use Rattle.std.proofs.Common.{arith, ◌≡◌, [], refl, ap, subst, ◌∙◌, Some}
 use Rattle.fed_http.specs.declared.state.State.{State}
 use Rattle.fed_http.specs.declared.text_place.TextPlace.TheVariants.{Size}
-use Rattle.fed_http.proofs.Windows.{fits_in}
 use Rattle.fed_http.specs.Faults.{IsFault}
 use Rattle.fed_http.specs.Keeping.{Kept}
 use Rattle.fed_http.specs.KeepingParts.{kept_of, IsOpeningAt}
@@ -28,15 +25,13 @@ returns-clause-opens c =
     let place = c.in_ok-place.place in
     let at = subst (λ v. IsOpeningAt kind v found) c.deref.ensures.value (on_some (IsOpeningAt kind c.deref.result.now) c.in-Some.is c.in_ok-opening.ensures.opening) in
     let same = c.in_ok-make_room.ensures.same in
-    let text_same : made.text.items ≡ text = ap (λ (k : Kept). k.text) same in
     let body_same : made.body.items ≡ [] = ap (λ (k : Kept). k.body) same ∙ c.requires in
-    let now : State = record { place = place; at = Size 0; head = found.len; text = c.truncate.new.self; start = Some found.message; body = made.body } in
-    let head : found.len ≤ vec_len made.text = omega (arith, at.len, fits_in text (print_head at.head) (drop found.len text) at.reads.whole, ap length text_same, made.text.ok) in
+    let now : State = record { place = place; at = Size 0; head = found.len; text = c.clear.new.self; start = Some found.message; body = made.body } in
     record {
       head = at.head;
       reads = at.reads;
       len_is = at.len;
       begun = place_begun found.framing place c.in_ok-place.ensures.place;
-      room = λ rest less. room_at place made now c.args.more rest c.in_ok-make_room.ensures.room less (omega (arith, c.truncate.ensures.len)) head c.truncate.ensures.capacity refl refl;
-      kept = opening_kept kind (kept_of now) text found place at c.in_ok-place.ensures.place refl refl (c.truncate.ensures.items ∙ ap (take found.len) text_same) refl body_same refl;
+      room = λ rest less. room_at place made now c.args.more rest c.in_ok-make_room.ensures.room less (omega (arith, c.clear.ensures.len)) c.clear.ensures.capacity refl refl;
+      kept = opening_kept kind (kept_of now) text found place at c.in_ok-place.ensures.place refl refl c.clear.ensures.items refl body_same refl;
     }

@@ -1,10 +1,10 @@
-use Rattle.std.proofs.Common.{arith, ◌≡◌, ◌-◌, length, take, drop, sym, ap, subst}
+use Rattle.std.proofs.Common.{◌≡◌, ◌-◌, length, take, drop, sym, ap, subst}
 use Rattle.fed_http.specs.Keeping.{Kept}
-use Rattle.fed_http.specs.KeepingParts.{HasRoomFor, BodyEnds, BodyWaits, Begun, TakeFails}
+use Rattle.fed_http.specs.KeepingParts.{HasRoomAt, BodyEnds, BodyWaits, Begun, TakeFails}
 use Rattle.fed_http.specs.declared.place.Place.{Place}
 use Rattle.fed_http.proofs.Windows.{to_end}
 use Rattle.fed_http.proofs.Lines.{on_some, on_none, passed_on}
-use Rattle.fed_http.proofs.TakenBodies.{sound_for, room_now, body_waits_piece, if_none, begun_sound, begun_ends, begun_waits, begun_fails}
+use Rattle.fed_http.proofs.TakenBodies.{sound_for, body_waits_piece, if_none, begun_sound, begun_ends, begun_waits, begun_fails}
 use Rattle.fed_http.proofs.state.State.take.Goals as goal
 
 pub take_body-requires-clause-sound : goal.take_body-requires-clause-sound
@@ -16,8 +16,8 @@ take_body-requires-clause-room c =
     let n = length c.args.piece.now in
     let same = c.in_ok-make_room.ensures.same in
     let place : made.place ≡ c.args.self.now.place = ap (λ (k : Kept). k.place) same in
-    let P : Place → Type 0 = λ p. HasRoomFor p made n in
-    room_now made n (sound_for c.args.kind c.args.self.now made same c.requires) (omega (arith, made.text.ok)) (subst P (sym place) c.in_ok-make_room.ensures.room)
+    let P : Place → Type 0 = λ p. HasRoomAt p made n in
+    subst P (sym place) c.in_ok-make_room.ensures.room
 
 pub returns-then-ne-clause-waits : goal.returns-then-ne-clause-waits
 returns-then-ne-clause-waits c = if_none c.take_body.result (body_waits_piece c.args.kind c.args.self.now c.make_room.new.self c.take_body.new.self c.args.piece.now c.in_ok-make_room.ensures.same) c.take_body.ensures.waits

@@ -11,5 +11,5 @@ returns-then-rest-ne10-clause-fails c = not_fed c.args.self.now c.args.rest.now 
 
 pub returns-clause-stepped : goal.returns-clause-stepped
 returns-clause-stepped c =
-    fed c.args.self.now _ c.args.rest.now c.requires.at refl refl (record { head = refl; start = refl }) c.truncate.ensures.items (omega (arith, c.truncate.ensures.len)) c.truncate.ensures.capacity (record { items = refl; len = refl; cap = refl })
+    fed c.args.self.now _ c.args.rest.now c.requires.at refl refl (record { head = refl; start = refl }) c.clear.ensures.items (omega (arith, c.clear.ensures.len)) c.clear.ensures.capacity (record { items = refl; len = refl; cap = refl })
     (grind (arith, nat_tests)) c.if-rest-ne10.false c.requires.room

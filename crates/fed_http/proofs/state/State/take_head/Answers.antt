@@ -49,7 +49,7 @@ returns-in-Some-clause-waits c =
     let more = take c.min-taken.result piece in
     let items = c.in_ok-extend_from_slice.ensures.items in
     let count : c.min-taken.result ≡ min (length piece) (max_head - vec_len s.text) = c.min-taken.ensures ∙ ap (λ n. min (length piece) (max_head - n)) c.len-before.ensures in
-    head_waits kind s now piece c.min-taken.result c.requires.at c.requires.at items refl count (omega (arith, s.text.ok)) g.short (head_goes kind s.text.items more all.items n s.at new items len g) (placed_behind kind s.text.items more all.items n s.at new items len g.on)
+    head_waits kind s now piece c.min-taken.result c.requires.at c.requires.at refl items refl count (omega (arith, s.text.ok)) g.short (head_goes kind s.text.items more all.items n s.at new items len g) (placed_behind kind s.text.items more all.items n s.at new items len g.on)
 
 pub returns-in-Ok-None-clause-waits : goal.returns-in-Ok-None-clause-waits
 returns-in-Ok-None-clause-waits c =
@@ -72,7 +72,7 @@ returns-in-Ok-None-clause-waits c =
     let at : parsed.at ≡ s.at = ap (λ (t : State). t.at) told.0 in
     let on : IsHeadPlace kind (take n parsed.text.items) s.at → IsHeadPlace kind parsed.text.items new =
     subst (λ p. IsHeadPlace kind (take n parsed.text.items) p → IsHeadPlace kind parsed.text.items new) at (subst (λ v. IsHeadPlace kind (take n v) parsed.at → IsHeadPlace kind v new) c.deref.ensures.value c.after-self.ensures) in
-    head_waits kind s now piece c.min-taken.result c.requires.at here text body count (omega (arith, s.text.ok)) lacks.few (λ _. lacks) (placed_behind kind s.text.items more parsed.text.items n s.at new text len on)
+    head_waits kind s now piece c.min-taken.result c.requires.at here (ap (λ (t : State). t.head) told.0) text body count (omega (arith, s.text.ok)) lacks.few (λ _. lacks) (placed_behind kind s.text.items more parsed.text.items n s.at new text len on)
 
 pub returns-in-Err-clause-fails : goal.returns-in-Err-clause-fails
 returns-in-Err-clause-fails c =
