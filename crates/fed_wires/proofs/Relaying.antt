@@ -87,6 +87,19 @@ module _ {T : Type 0} (fits : ℕ → T → Type 0) where
           each_more (Knows h.0 (length vs) h.2 h.3) vs right (λ j u e. ((old j u e).0, λ p. absurd ((old j u e).1 p))) ((λ p. absurd (off p)), λ _. (refl, (mine.1 may).1)),
         )
 
+    -- a pass that knows nothing may join
+    pub shows : (pass : ℕ) (v : Log T) → Forks (Relays fits room) pass v v idle
+    shows pass v queue views h at =
+        let vs : List (Log T) = set views pass v in (
+          h.0,
+          h.1,
+          h.2,
+          h.3,
+          h.4,
+          h.5,
+          each_more (Knows h.0 h.1 h.2 h.3) vs idle (each_set (Knows h.0 h.1 h.2 h.3) views pass v (h.6 pass v at) (λ j u _ e. h.6 j u e)) ((λ p. absurd (off p)), λ p. absurd (off p)),
+        )
+
     -- a count of messages that came back changes nothing else, and a pass that knows nothing may join
     pub returns : (pass : ℕ) (v : Log T) → Forks (Relays fits room) pass v (log v.sends v.receives v.sent v.received (v.returned + 1)) idle
     returns pass v queue views h at =

@@ -1,5 +1,6 @@
 pub mod Board
 pub mod BoardRule
+pub mod NoRoom
 pub mod Received
 pub mod ReceiveEnd
 pub mod Seat

@@ -3,7 +3,7 @@ ghost use Rattle.std.specs.Prelude.{◌≡◌, ◌<◌, length, IfOk, IfSome};
 
 use crate::ends::SendEnd;
 use crate::numbering::Numbering;
-use crossbeam_channel::Receiver;
+use crate::returns::Returns;
 use std::alloc::{AllocError, Global};
 use std::marker::Model;
 use std::sync::Wait;
@@ -20,7 +20,7 @@ use std::sync::Wait;
 /// [`CAPACITY`]: crate::CAPACITY
 #[derive(Drop)]
 pub struct Credits {
-    wires: Vec<Receiver<()>>,
+    wires: Vec<Returns>,
 }
 
 impl Model for Credits {
@@ -45,7 +45,7 @@ impl Credits {
     {
         let mut wires = Vec::with_capacity(alloc, ends.len())?;
         for end in ends {
-            wires.push(end.credits.clone()?)?;
+            wires.push(end.credits.share()?)?;
         }
         Ok(Credits { wires })
     }
@@ -57,7 +57,7 @@ impl Credits {
         ensures { IfSome result (λ credit. credit ≡ place) }
     {
         let credits = &self.wires[place];
-        credits.recv(rt).ok().map(|()| Credit { place })
+        credits.wait(rt).then_some(Credit { place })
     }
 }
 

@@ -1,5 +1,5 @@
 // The two ends of a wire.
-ghost use Rattle.std.specs.Prelude.{◌≡◌, ℕ, ◌+◌, ◌++◌, ◌<◌, ◌≤◌, ◌↔◌, List, [], ◌∷◌, length, IsTrue, IfOk, OnOk, IfErr};
+ghost use Rattle.std.specs.Prelude.{◌≡◌, ℕ, ◌+◌, ◌++◌, ◌<◌, ◌≤◌, List, [], ◌∷◌, length, IsTrue, IfOk, OnOk, IfErr};
 ghost use mathlib.Core.List.{IsPrefix};
 ghost use Rattle.fed_wires.specs.Wire.{Follows};
 ghost use Rattle.fed_wires.specs.SendEnd.{new_sender, with_sent, with_returned, with_room, with_credit};
@@ -7,11 +7,15 @@ ghost use Rattle.fed_wires.specs.ReceiveEnd.{new_receiver};
 ghost use Rattle.fed_wires.specs.Received.{Receives as ReceivesAs, IsWaited};
 
 use crate::credits::Credit;
+use crate::no_room::NoRoom;
 use crate::numbering::Numbering;
 use crate::received::Received;
-use crate::rule::{CAPACITY, Compares, Log, Meeting, Parting, Receives, Relay, Returned, Sends};
+use crate::returns::{Found, Returns};
+use crate::rule::{
+    CAPACITY, Compares, Log, Meeting, Parting, Receives, Relay, Returned, Sends, Shows,
+};
 use crossbeam_channel::{
-    Pass, Receiver, RuledReceiver, RuledSender, Sender, TryRecvError, bounded, bounded_with,
+    Pass, RuledReceiver, RuledSender, Sender, TryRecvError, bounded, bounded_with,
 };
 use std::alloc::{AllocError, Global};
 use std::marker::Model;
@@ -25,8 +29,7 @@ use std::sync::Wait;
 pub struct SendEnd<T: Drop, N: Numbering<T>> {
     channel: RuledSender<T, Log<T>, Relay<T, N>>,
     pass: Pass<T, Log<T>>,
-    // The credits that came back and are in nobody's hand.
-    pub(crate) credits: Receiver<()>,
+    pub(crate) credits: Returns,
     room: usize,
 }
 
@@ -121,7 +124,7 @@ pub fn wire<T: Drop, N: Numbering<T>>(
         SendEnd {
             channel: sender,
             pass,
-            credits,
+            credits: Returns::new(credits),
             room: CAPACITY,
         },
         ReceiveEnd {
@@ -134,25 +137,32 @@ pub fn wire<T: Drop, N: Numbering<T>>(
 }
 
 impl<T: Drop, N: Numbering<T>> SendEnd<T, N> {
-    /// Takes in credits that came back, without waiting, until so many are in hand, and says whether they are. Where the other end is gone
-    /// there is always room: what is sent comes back then, and waits for nobody.
+    /// Takes in credits that came back, without waiting, until so many are in hand. Where the other end is gone there is always room: what is
+    /// sent comes back then, and waits for nobody.
     ///
-    /// A credit that is just being given back may be missed. It is found by the next call, or by who waits for one ([`Credits`]).
+    /// # Errors
+    ///
+    /// Where fewer are in hand and none is found that came back. One that is just being given back may be missed: it is found by the next call,
+    /// or by who waits for one ([`Credits`]).
     ///
     /// [`Credits`]: crate::Credits
-    pub fn has_room<R: Wait>(&mut self, rt: &R, count: usize) -> bool
+    pub fn reserve<R: Wait>(&mut self, rt: &R, count: usize) -> Result<(), NoRoom<T>>
         ensures same { self.new ≡ with_room self.old self.new.room }
         ensures more { self.old.room ≤ self.new.room }
-        ensures told { IsTrue result ↔ (count ≤ self.new.room) }
+        ensures room { OnOk result (count ≤ self.new.room) }
+        ensures full { IfErr result (λ no_room. (self.new.room < count) × (no_room ≡ record { wire = self.old.wire; count = count })) }
     {
         while self.room < count {
-            match self.credits.try_recv(rt) {
-                Ok(()) => self.room += 1,
-                Err(TryRecvError::Empty) => return false,
-                Err(TryRecvError::Disconnected) => self.room = count,
+            match self.credits.take(rt) {
+                Found::Credit => self.room += 1,
+                Found::Nothing(none) => {
+                    let shown = self.channel.another::<Shows>(&mut self.pass);
+                    return Err(NoRoom::new(shown, count, none));
+                }
+                Found::Gone => self.room = count,
             }
         }
-        true
+        Ok(())
     }
 
     /// Waits for a credit and takes it in, or waits until the other end is gone. It is for who has this end alone: one that lies under a lock
@@ -161,9 +171,8 @@ impl<T: Drop, N: Numbering<T>> SendEnd<T, N> {
         ensures same { self.new ≡ with_room self.old self.new.room }
         ensures more { self.old.room ≤ self.new.room }
     {
-        if self.credits.recv(rt).is_ok() {
-            self.room = self.room.saturating_add(1);
-        }
+        let came = self.credits.wait(rt);
+        self.room = self.room.saturating_add(usize::from(came));
     }
 
     /// Takes in a credit that was waited for.

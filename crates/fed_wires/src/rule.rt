@@ -56,6 +56,17 @@ impl<T> Join<Log<T>> for Meeting {
     ghost spent = { idle };
 }
 
+// The pass that is cut off knows nothing but which wire it is of.
+pub(crate) struct Shows;
+
+impl<T> Split<Log<T>> for Shows {
+    ghost use Rattle.fed_wires.specs.Wire.{idle};
+
+    ghost left = { λ v. v };
+
+    ghost right = { λ v. idle };
+}
+
 // A message came back: the count of these rises and no list changes. The pass that is cut off knows nothing.
 pub(crate) struct Returned;
 

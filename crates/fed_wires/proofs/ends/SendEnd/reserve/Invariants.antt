@@ -1,5 +1,5 @@
 use Rattle.std.proofs.Common.{◌-◌, ◌≡◌, ◌≤◌}
-use Rattle.fed_wires.proofs.ends.SendEnd.has_room.Given as goal
+use Rattle.fed_wires.proofs.ends.SendEnd.reserve.Given as goal
 
 abbrev pub invariant-loop-self : goal.invariant-loop-self
 invariant-loop-self g l = record { pass : l.self-inside.pass ≡ l.initial.self-inside.pass; channel : l.self-inside.channel ≡ l.initial.self-inside.channel; more : l.initial.self-inside.room ≤ l.self-inside.room }
