@@ -12,7 +12,7 @@ use Rattle.fed_journal.specs.declared.entry.Entry.TheVariants.{Close}
 use Rattle.fed_journal.specs.declared.fault.JournalFault.{JournalFault}
 use Rattle.fed_journal.specs.declared.fault.JournalFault.TheVariants.{Memory, Limit}
 use Rattle.fed_hub_state.specs.declared.sending_journal.CloseFault.{CloseFault}
-use Rattle.fed_hub_state.specs.CloseFault.{close_fault_of, CloseFullIsWithin}
+use Rattle.fed_hub_state.specs.CloseFault.{close_fault_of, CloseFullIsOf}
 use Rattle.fed_journal.specs.declared.parcel.Load.TheVariants.{End}
 use Rattle.fed_journal.specs.declared.parcel.Parcel.{Parcel}
 use Rattle.fed_journal.specs.Place.{PlaceValue}
@@ -25,7 +25,7 @@ use Rattle.fed_hub_state.specs.Closing.{Closes, ClosesOpen, asked, lost, no_plac
 use Rattle.fed_hub_state.specs.NoRoom.{HasNoRoom}
 use Rattle.fed_hub_state.specs.SendingJournal.{SendingState}
 use Rattle.fed_hub_state.specs.Spreading.{HasSent, AreSent}
-use Rattle.fed_hub_state.proofs.Places.{set_all}
+use Rattle.fed_wires.proofs.Places.{set_all}
 use Rattle.fed_hub_state.proofs.Spreads.{lost-more, or_false}
 
 loses_other : (cause : Cause) (x d : ℕ) → d ≢ x → loses d (Close x cause) ≡ false
@@ -112,10 +112,10 @@ no_room_told d old fault (Err t) running room errs is = subst (λ f. Closes d ol
     by Limit room = no_place running room
     by Memory room = no_memory running room
 
-pub fault_within : {X : Type 0} (count : ℕ) (fault : JournalFault) (told : Result X CloseFault) → IsErrAnd told (λ t. t ≡ close_fault_of fault) → IfErr told (CloseFullIsWithin count)
-fault_within count fault (Ok x) is = tt
-fault_within count fault (Err t) is = subst (CloseFullIsWithin count) (sym is) (by fault)
+pub not_full : {X : Type 0} (wires : List (WireId Parcel)) (fault : JournalFault) (told : Result X CloseFault) → IsErrAnd told (λ t. t ≡ close_fault_of fault) → IfErr told (CloseFullIsOf wires)
+not_full wires fault (Ok x) is = tt
+not_full wires fault (Err t) is = subst (CloseFullIsOf wires) (sym is) (by fault)
   where
-    by : (fault : JournalFault) → CloseFullIsWithin count (close_fault_of fault)
+    by : (fault : JournalFault) → CloseFullIsOf wires (close_fault_of fault)
     by Limit = tt
     by Memory = tt

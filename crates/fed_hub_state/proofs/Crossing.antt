@@ -7,7 +7,8 @@ use Rattle.std.proofs.Crossing as crossing
 use Rattle.std.proofs.MapsCrossing as maps
 use Rattle.std.proofs.vec.Vec.TheSendSync as vec
 use Rattle.std.proofs.sync.ledger.Book.TheSendSync as book
-use Rattle.serde_json.proofs.value.Value.TheLaws.TheKnot
+use Rattle.fed_json.proofs.tree.Tree.TheLaws.TheKnot
+use Rattle.fed_event.specs.contracts.checked.Checked as checked
 use Rattle.fed_journal.specs.contracts.parcel.Parcel as parcel
 use Rattle.fed_journal.specs.contracts.journal.Journal as journal
 use Rattle.fed_outbox.specs.contracts.outbox.Outbox as outbox
@@ -56,11 +57,14 @@ outbox_send = first_of (
   search (maps.crosses, crossing.crosses, TheKnot.crosses_both, sendable) depth 60 fits 20000,
 )
 
-pub kept_room_send : IsSend kept_room.the_row
-kept_room_send = first_of (
+pub checked_send : IsSend checked.the_row
+checked_send = first_of (
   search (maps.crosses, crossing.crosses, TheKnot.crosses, sendable) depth 60 fits 20000,
   search (maps.crosses, crossing.crosses, TheKnot.crosses_both, sendable) depth 60 fits 20000,
 )
+
+pub kept_room_send : IsSend kept_room.the_row
+kept_room_send = search (checked_send, maps.crosses, crossing.crosses, sendable) depth 60 fits 20000
 
 pub seated_outbox_send : (N : RattleType) (names : naming.Ghosts N.Denot) → IsSend (seated.the_row N names)
 seated_outbox_send N names = view_send _ _ _ _ _ (declared_send (seated_inside.the_type N names) (outbox_send, (search (seat.the_send, sendable) depth 60, (search sendable depth 60, tt))))

@@ -31,7 +31,7 @@ use Rattle.std.specs.Result.{IsErr, IsErrAnd}
 use Rattle.fed_hub_state.specs.declared.sending_journal.EnterFault.{EnterFault}
 use Rattle.fed_journal.specs.declared.fault.JournalFault.{JournalFault}
 use Rattle.fed_journal.specs.declared.fault.JournalFault.TheVariants.{Memory, Limit}
-use Rattle.fed_hub_state.specs.EnterFault.{enter_fault_of, FullIsWithin}
+use Rattle.fed_hub_state.specs.EnterFault.{enter_fault_of, FullIsOf}
 use Rattle.fed_hub_state.specs.NoRoom.{HasNoRoom}
 use Rattle.fed_hub_state.specs.SendingJournal.{SendingState}
 use Rattle.fed_hub_state.specs.Spreading.{AreSent, AreSentTo, AreAll, dests_of}
@@ -218,10 +218,10 @@ no_room_told offered dests old client count fault (Err t) same running room errs
     by Limit room = no_place running (ap (has_place old.entries) (sym same) ∙ room)
     by Memory room = no_memory running (ap (has_place old.entries) (sym same) ∙ room)
 
-pub fault_within : (count : ℕ) (fault : JournalFault) (told : Result ℕ EnterFault) → IsErrAnd told (λ t. t ≡ enter_fault_of fault) → IfErr told (FullIsWithin count)
-fault_within count fault (Ok x) is = tt
-fault_within count fault (Err t) is = subst (FullIsWithin count) (sym is) (by fault)
+pub not_full : (wires : List (WireId Parcel)) (fault : JournalFault) (told : Result ℕ EnterFault) → IsErrAnd told (λ t. t ≡ enter_fault_of fault) → IfErr told (FullIsOf wires)
+not_full wires fault (Ok x) is = tt
+not_full wires fault (Err t) is = subst (FullIsOf wires) (sym is) (by fault)
   where
-    by : (fault : JournalFault) → FullIsWithin count (enter_fault_of fault)
+    by : (fault : JournalFault) → FullIsOf wires (enter_fault_of fault)
     by Limit = tt
     by Memory = tt

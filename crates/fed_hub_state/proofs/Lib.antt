@@ -1,4 +1,3 @@
-pub mod Places
 pub mod WireRooms
 pub mod Spreads
 pub mod Entered

@@ -24,7 +24,7 @@ use Rattle.fed_hub_state.specs.ShuttingDownParts.{ClosesOther, left, closed, IsB
 use Rattle.fed_hub_state.specs.WireRoom.{HaveRoom}
 use Rattle.fed_hub_state.specs.declared.sending_journal.CloseFault.{CloseFault}
 use Rattle.fed_hub_state.specs.CloseFault.{close_fault_of}
-use Rattle.fed_hub_state.proofs.Places.{set_all}
+use Rattle.fed_wires.proofs.Places.{set_all}
 use Rattle.fed_hub_state.proofs.WireRooms.{room_elsewhere}
 use Rattle.fed_hub_state.proofs.Spreads.{or_true, or_false, open_closes}
 use Rattle.fed_hub_state.proofs.Closed as closings

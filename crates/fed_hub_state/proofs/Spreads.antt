@@ -26,7 +26,7 @@ use Rattle.fed_hub_state.specs.declared.unplaced.Unplaced.{Unplaced}
 use Rattle.fed_hub_state.specs.Spreading.{HasSent, AreSent, AreSentTo, PassesOn, shut, sent, back, AreAll, dests_of, wires_of, AreUnused}
 use Rattle.fed_hub_state.specs.SpreadingParts.{AreSome, none, left, kept, IsUnderWay}
 use Rattle.fed_hub_state.specs.WireRoom.{HaveRoom}
-use Rattle.fed_hub_state.proofs.Places.{set_all}
+use Rattle.fed_wires.proofs.Places.{set_all}
 use Rattle.fed_hub_state.proofs.WireRooms.{room_elsewhere}
 
 pub or_true : (b : Bool) → (b || true) ≡ true

@@ -2,17 +2,20 @@
 use Rattle.std.proofs.Common.{arith, ◌≡◌, ◌≢◌, ◌⊎◌, inl, inr, ℕ, zero, suc, ◌<◌, ◌≤◌, ◌==◌, Bool, true, false, ◌||◌, List, [], ◌∷◌, length, set, get_or, take, Some, refl, sym, ap, ◌∙◌, subst, ⊎_elim, length-set}
 use Rattle.std.specs.List.{slice_get, All}
 use Rattle.std.proofs.lemmas.Bool.{eq-eqb, eqb-true}
+use Rattle.std.proofs.lemmas.Option.{slice_get_within}
 use Rattle.std.proofs.Math.Bool.{or-true}
 use Rattle.fed_dest.specs.ServerSet.{is_among}
 use Rattle.fed_journal.specs.declared.entry.Entry.{Entry}
 use Rattle.fed_journal.specs.declared.parcel.Parcel.{Parcel}
 use Rattle.fed_journal.specs.Journal.{parcels}
+use Rattle.fed_wires.specs.NoRoom.{Lack}
 use Rattle.fed_wires.specs.SendEnd.{Sender, with_room}
 use Rattle.fed_wires.specs.WireId.{WireId}
+use Rattle.fed_hub_state.specs.declared.full_wire.FullWire.{FullWire}
 use Rattle.fed_hub_state.specs.declared.unplaced.Unplaced.{Unplaced}
 use Rattle.fed_hub_state.specs.Spreading.{HasSent, AreSent, dests_of}
-use Rattle.fed_hub_state.specs.WireRoom.{HasTakenIn, HaveTakenIn, HaveRoom}
-use Rattle.fed_hub_state.proofs.Places.{set_all}
+use Rattle.fed_hub_state.specs.WireRoom.{HasTakenIn, HaveTakenIn, HaveRoom, WasFull, IsFullOf}
+use Rattle.fed_wires.proofs.Places.{set_here, set_all}
 
 pub taken_none : (ends : List (Sender Parcel)) → HaveTakenIn ends ends
 taken_none ends = record { count = refl; each = λ d is here. (is, (here, record { same = refl; more = omega arith })) }
@@ -55,6 +58,26 @@ credited_sent wires entries ends x room end are here = record {
       let was = are.each x end here in
       set_all (λ d e. HasSent wires entries d (parcels entries d) e) ends x (with_room end room) (record { wire = was.wire; sent = was.sent; returned = was.returned }) (λ d e _ there. are.each d e there);
 }
+
+-- an end that was asked for one credit and has none
+pub full_at : (ends : List (Sender Parcel)) (x : ℕ) (end new : Sender Parcel) (full : FullWire) → x < length ends → new ≡ with_room end new.room → new.room < 1 → full.dest ≡ x → full.no_room ≡ record { wire = end.wire; count = 1 }
+    → WasFull (set ends x new) full
+full_at ends x end new full within same few dest shown = record {
+  end = new;
+  here = ap (slice_get (set ends x new)) dest ∙ set_here ends x new within;
+  none = omega (arith, few);
+  shown = shown ∙ ap (λ (e : Sender Parcel). record { wire = e.wire; count = 1 }) (sym same);
+}
+
+-- its wire is the one of that name
+pub full_named : (wires : List (WireId Parcel)) (entries : List Entry) (old new : List (Sender Parcel)) (full : FullWire) → AreSent wires entries old → HaveTakenIn old new → WasFull new full → IsFullOf wires full
+full_named wires entries old new full are taken was =
+    let sent = taken_sent wires entries old new are taken in
+    record {
+      within = omega (arith, slice_get_within new full.dest was.end was.here, sent.count);
+      wire = (sent.each full.dest was.end was.here).wire ∙ ap (λ (l : Lack Parcel). Some l.wire) (sym was.shown);
+      count = ap (λ (l : Lack Parcel). l.count) was.shown;
+    }
 
 pub room_at : (ends : List (Sender Parcel)) (x : ℕ) (new : Sender Parcel) → 0 < new.room → HaveRoom (λ d. d ≡ x) (set ends x new)
 room_at ends x new room d end to here = set_all (λ k e. k ≡ x → 0 < e.room) ends x new (λ _. room) (λ k e apart _ is. absurd (apart is)) d end here to

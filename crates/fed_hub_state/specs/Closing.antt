@@ -9,6 +9,7 @@ use Rattle.fed_journal.specs.Journal.{JournalState, is_closed, with_entry}
 use Rattle.fed_journal.specs.Offering.{has_place}
 use Rattle.fed_journal.specs.Place.{PlaceValue}
 use Rattle.fed_wires.specs.SendEnd.{Sender, with_sent, with_returned}
+use Rattle.fed_hub_state.specs.declared.full_wire.FullWire.{FullWire}
 use Rattle.fed_hub_state.specs.declared.sending_journal.CloseFault.{CloseFault}
 use Rattle.fed_hub_state.specs.declared.sending_journal.CloseFault.TheVariants.{Memory, Limit, Full}
 use Rattle.fed_hub_state.specs.SendingJournal.{SendingState}
@@ -19,7 +20,7 @@ pub data Closes (d : ℕ) (old : SendingState) : Result Bool CloseFault → Send
   before : is_closed old.entries d ≡ true → Closes d old (Ok false) old
   no_place : is_closed old.entries d ≡ false → has_place old.entries 0 ≡ false → Closes d old (Err Limit) old
   no_memory : is_closed old.entries d ≡ false → has_place old.entries 0 ≡ true → Closes d old (Err Memory) old
-  full : is_closed old.entries d ≡ false → has_place old.entries 0 ≡ true → Closes d old (Err (Full d)) old
+  full : (full : FullWire) → is_closed old.entries d ≡ false → has_place old.entries 0 ≡ true → full.dest ≡ d → Closes d old (Err (Full full)) old
   now : (cause : Cause) → is_closed old.entries d ≡ false → has_place old.entries 0 ≡ true
       → Closes d old (Ok true) (record { entries = old.entries ++ Close d cause ∷ []; is_shut = old.is_shut })
 

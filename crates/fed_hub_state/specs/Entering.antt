@@ -4,6 +4,7 @@ use Rattle.fed_journal.specs.declared.offered.Offered.{Offered}
 use Rattle.fed_dest.specs.ServerSet.{is_among}
 use Rattle.fed_journal.specs.Offered.{entry_of, number_of}
 use Rattle.fed_journal.specs.Offering.{open_among, has_place, with_lost, AreLost}
+use Rattle.fed_hub_state.specs.declared.full_wire.FullWire.{FullWire}
 use Rattle.fed_hub_state.specs.declared.sending_journal.EnterFault.{EnterFault}
 use Rattle.fed_hub_state.specs.declared.sending_journal.EnterFault.TheVariants.{Memory, ShutDown, Limit, Full}
 use Rattle.fed_hub_state.specs.ClientToken.{ClientShare, with_told}
@@ -16,8 +17,8 @@ pub data Enters (offered : Offered) (dests : List ℕ) (old : SendingState) (cli
   shut_down : old.is_shut ≡ true → Enters offered dests old client (Err ShutDown) old client
   no_place : old.is_shut ≡ false → has_place old.entries (length (open_among old.entries dests)) ≡ false → Enters offered dests old client (Err Limit) old client
   no_memory : old.is_shut ≡ false → has_place old.entries (length (open_among old.entries dests)) ≡ true → Enters offered dests old client (Err Memory) old client
-  full : (d : ℕ) → old.is_shut ≡ false → has_place old.entries (length (open_among old.entries dests)) ≡ true → is_among (open_among old.entries dests) d ≡ true
-      → Enters offered dests old client (Err (Full d)) old client
+  full : (full : FullWire) → old.is_shut ≡ false → has_place old.entries (length (open_among old.entries dests)) ≡ true → is_among (open_among old.entries dests) full.dest ≡ true
+      → Enters offered dests old client (Err (Full full)) old client
   entered : (lost : List ℕ) → old.is_shut ≡ false → has_place old.entries (length (open_among old.entries dests)) ≡ true → AreLost old.entries dests lost
       → Enters offered dests old client (Ok (number_of offered (with_lost old.entries lost ++ entry_of offered dests ∷ [])))
       (record { entries = with_lost old.entries lost ++ entry_of offered dests ∷ []; is_shut = old.is_shut }) (with_told client offered)

@@ -49,8 +49,8 @@ EventIsOffered p dests room old client (Err Limit) stored new after =
     → IsOffered room_rules signer servers own draft [] room old.entries event_has_no_place stored new.entries)
 EventIsOffered p dests room old client (Err ShutDown) stored new after = (old.is_shut ≡ true) × (stored ≡ room) × (new ≡ old) × (after ≡ client)
 EventIsOffered p dests room old client (Err enter.Memory) stored new after = (old.is_shut ≡ false) × (stored ≡ room) × (new ≡ old) × (after ≡ client)
-EventIsOffered p dests room old client (Err (enter.Full d)) stored new after =
-    (old.is_shut ≡ false) × (is_among (open_among old.entries dests) d ≡ true) × (stored ≡ room) × (new ≡ old) × (after ≡ client)
+EventIsOffered p dests room old client (Err (enter.Full full)) stored new after =
+    (old.is_shut ≡ false) × (is_among (open_among old.entries dests) full.dest ≡ true) × (stored ≡ room) × (new ≡ old) × (after ≡ client)
 
 -- ---- an ephemeral data unit is offered
 
@@ -62,7 +62,7 @@ EduIsOffered value dests old client (Ok number) new after =
 EduIsOffered value dests old client (Err Limit) new after = (old.is_shut ≡ false) × IsEduOffered value dests [] old.entries edu_has_no_place new.entries × (new ≡ old) × (after ≡ client)
 EduIsOffered value dests old client (Err ShutDown) new after = (old.is_shut ≡ true) × (new ≡ old) × (after ≡ client)
 EduIsOffered value dests old client (Err enter.Memory) new after = (old.is_shut ≡ false) × (new ≡ old) × (after ≡ client)
-EduIsOffered value dests old client (Err (enter.Full d)) new after = (old.is_shut ≡ false) × (is_among (open_among old.entries dests) d ≡ true) × (new ≡ old) × (after ≡ client)
+EduIsOffered value dests old client (Err (enter.Full full)) new after = (old.is_shut ≡ false) × (is_among (open_among old.entries dests) full.dest ≡ true) × (new ≡ old) × (after ≡ client)
 
 -- ---- an outbox is closed
 
@@ -72,4 +72,4 @@ OutboxIsClosed d old (Ok true) new = (cause : Cause) × ((new.is_shut ≡ old.is
 OutboxIsClosed d old (Ok false) new = ((cause : Cause) → IsClosing d cause old.entries was_closed new.entries) × (new ≡ old)
 OutboxIsClosed d old (Err fault.Limit) new = ((cause : Cause) → IsClosing d cause old.entries close_has_no_place new.entries) × (new ≡ old)
 OutboxIsClosed d old (Err fault.Memory) new = (is_closed old.entries d ≡ false) × (new ≡ old)
-OutboxIsClosed d old (Err (fault.Full full)) new = (is_closed old.entries d ≡ false) × (full ≡ d) × (new ≡ old)
+OutboxIsClosed d old (Err (fault.Full full)) new = (is_closed old.entries d ≡ false) × (full.dest ≡ d) × (new ≡ old)

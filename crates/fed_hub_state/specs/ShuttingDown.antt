@@ -8,6 +8,7 @@ use Rattle.fed_journal.specs.declared.fault.JournalFault.{JournalFault}
 use Rattle.fed_journal.specs.declared.fault.JournalFault.TheVariants.{Memory, Limit}
 use Rattle.fed_journal.specs.Journal.{is_closed}
 use Rattle.fed_journal.specs.Offering.{IsClosing, is_closed_now}
+use Rattle.fed_hub_state.specs.declared.full_wire.FullWire.{FullWire}
 use Rattle.fed_hub_state.specs.declared.sending_journal.CloseFault.{CloseFault}
 use Rattle.fed_hub_state.specs.declared.sending_journal.CloseFault.TheVariants as close
 use Rattle.fed_hub_state.specs.SendingJournal.{SendingState}
@@ -41,6 +42,7 @@ pub data ShutsDown (count own : ℕ) (old : SendingState) : Result (Unit {0}) Cl
   before : old.is_shut ≡ true → ShutsDown count own old (Ok tt) old
   no_place : old.is_shut ≡ false → has_places old.entries (length (others_open count own old.entries)) ≡ false → ShutsDown count own old (Err close.Limit) old
   no_memory : old.is_shut ≡ false → has_places old.entries (length (others_open count own old.entries)) ≡ true → ShutsDown count own old (Err close.Memory) old
-  full : (d : ℕ) → old.is_shut ≡ false → has_places old.entries (length (others_open count own old.entries)) ≡ true → is_other_open own old.entries d ≡ true → ShutsDown count own old (Err (close.Full d)) old
+  full : (full : FullWire) → old.is_shut ≡ false → has_places old.entries (length (others_open count own old.entries)) ≡ true → is_other_open own old.entries full.dest ≡ true
+      → ShutsDown count own old (Err (close.Full full)) old
   now : (entries : List Entry) → old.is_shut ≡ false → AreClosedInTurn old.entries (others_open count own old.entries) entries
       → ShutsDown count own old (Ok tt) (record { entries = entries; is_shut = true })

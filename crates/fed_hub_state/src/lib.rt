@@ -8,6 +8,7 @@
 //! - `naming`: `Naming`, the names by which contracts know the wires, the board and the ledgers
 //! - `in_place`: `InPlace`, which parcel may be the k-th of a wire
 //! - `unplaced`: `Unplaced`, a load for a destination that has no place yet
+//! - `full_wire`: `FullWire`, a destination whose wire had no room
 //! - `sending_journal`: `SendingJournal`, the journal and the ends that send of its wires
 //! - `kept_room`: `KeptRoom`, a room with all that it was given
 //! - `seated_outbox`: `SeatedOutbox`, an outbox and the seat that owns its word of the board
@@ -18,6 +19,7 @@
 #![tactic(auto)]
 
 mod client_token;
+mod full_wire;
 mod in_place;
 mod kept_room;
 mod naming;
@@ -29,6 +31,7 @@ mod spreading;
 mod unplaced;
 
 pub use client_token::ClientToken;
+pub use full_wire::FullWire;
 pub use in_place::InPlace;
 pub use kept_room::KeptRoom;
 pub use naming::{EduLedger, EventLedger, Naming};

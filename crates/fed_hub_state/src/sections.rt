@@ -14,8 +14,8 @@ ghost use Rattle.fed_journal.specs.Offered.{load_of};
 ghost use Rattle.fed_room_contract.specs.declared.verdict.Verdict.TheVariants.{Accepted};
 ghost use Rattle.fed_room.specs.Room.{room_of, room_rules, IsPrepared};
 ghost use Rattle.fed_hub_state.specs.Applying.{EventIsApplied};
-ghost use Rattle.fed_hub_state.specs.CloseFault.{CloseFullIsWithin};
-ghost use Rattle.fed_hub_state.specs.EnterFault.{FullIsWithin};
+ghost use Rattle.fed_hub_state.specs.CloseFault.{CloseFullIsOf};
+ghost use Rattle.fed_hub_state.specs.EnterFault.{FullIsOf};
 ghost use Rattle.fed_hub_state.specs.Sections.{IsRefused, IsCollected, EventIsOffered, EduIsOffered, OutboxIsClosed};
 ghost use Rattle.fed_hub_state.specs.ShuttingDown.{ShutsDown};
 ghost use Rattle.fed_hub_state.specs.Spreading.{AreAll, dests_of};
@@ -68,7 +68,7 @@ pub fn offer<N: Naming, R: Wait>(
     requires within { All (λ d. d < length N.wires) outgoing.dests }
     requires dests { dests_of outgoing.loads.items ≡ outgoing.dests }
     requires same { AreAll (load_of outgoing.offered) outgoing.loads.items }
-    ensures within { IfErr result (FullIsWithin (length N.wires)) }
+    ensures full { IfErr result (FullIsOf N.wires) }
     ensures offered { EventIsOffered outgoing.prepared outgoing.dests (room_of room.old.room) journal.old client.old result (room_of room.new.room) journal.new client.new }
 {
     let Outgoing {
@@ -102,7 +102,7 @@ pub fn offer_edu<N: Naming, R: Wait>(
     requires within { All (λ d. d < length N.wires) dests }
     requires dests { dests_of loads.items ≡ dests }
     requires same { AreAll (Edu edu) loads.items }
-    ensures within { IfErr result (FullIsWithin (length N.wires)) }
+    ensures full { IfErr result (FullIsOf N.wires) }
     ensures offered { EduIsOffered edu dests journal.old client.old result journal.new client.new }
 {
     journal.enter(rt, client, Offered::Edu(edu), dests, loads)
@@ -119,7 +119,7 @@ pub fn close<N: Naming, R: Wait>(
     dest: ServerIndex,
 ) -> Result<bool, CloseFault>
     requires { dest < length N.wires }
-    ensures within { IfErr result (CloseFullIsWithin (length N.wires)) }
+    ensures full { IfErr result (CloseFullIsOf N.wires) }
     ensures closed { OutboxIsClosed dest journal.old result journal.new }
 {
     journal.close(rt, dest)
@@ -136,7 +136,7 @@ pub fn shut_down<N: Naming, R: Wait>(
     own: ServerIndex,
 ) -> Result<(), CloseFault>
     requires { own ≡ N.own }
-    ensures within { IfErr result (CloseFullIsWithin (length N.wires)) }
+    ensures full { IfErr result (CloseFullIsOf N.wires) }
     ensures shut { ShutsDown (length N.wires) N.own journal.old result journal.new }
 {
     journal.shut_down(rt, own)

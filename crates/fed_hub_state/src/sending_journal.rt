@@ -5,17 +5,18 @@ ghost use Rattle.fed_journal.specs.Journal.{is_closed, next_place, placed, event
 ghost use Rattle.fed_journal.specs.Offered.{load_of};
 ghost use Rattle.fed_journal.specs.Offering.{has_place};
 ghost use mathlib.Core.List.{IsPrefix};
-ghost use Rattle.fed_hub_state.specs.CloseFault.{CloseFullIsWithin};
+ghost use Rattle.fed_hub_state.specs.CloseFault.{CloseFullIsOf};
 ghost use Rattle.fed_hub_state.specs.Closing.{ClosesOpen};
-ghost use Rattle.fed_hub_state.specs.EnterFault.{FullIsWithin};
+ghost use Rattle.fed_hub_state.specs.EnterFault.{FullIsOf};
 ghost use Rattle.fed_hub_state.specs.NoRoom.{HasNoRoom};
 ghost use Rattle.fed_hub_state.specs.Spreading.{AreAll, dests_of};
 
 use crate::client_token::ClientToken;
+use crate::full_wire::FullWire;
 use crate::in_place::InPlace;
 use crate::naming::{EduLedger, EventLedger, Naming};
 use crate::shutting_down::{close_others, full_other, make_places, others_open};
-use crate::spreading::{full_among, goes, has_room, pass_all_on};
+use crate::spreading::{full_among, full_at, goes, pass_all_on};
 use crate::unplaced::Unplaced;
 use fed_dest::{MAX_SERVERS, ServerIndex, ServerSet};
 use fed_journal::{Cause, Entry, Journal, JournalFault, Load, Offered, Parcel, Place};
@@ -28,7 +29,7 @@ use std::sync::ledger::{Blank, Book};
 use thiserror::Error;
 
 /// Why what is offered is not entered.
-#[derive(Clone, Copy, Debug, PartialEq, Eq, Error)]
+#[derive(Debug, Drop, Error)]
 pub enum EnterFault {
     /// Memory ran out.
     #[error("out of memory")]
@@ -39,9 +40,9 @@ pub enum EnterFault {
     /// There would be more than `MAX_ENTRIES` entries.
     #[error("too many entries")]
     Limit,
-    /// The wire to this destination has no room.
+    /// The wire to a destination had no room.
     #[error("a full wire")]
-    Full(ServerIndex),
+    Full(FullWire),
 }
 
 impl From<JournalFault> for EnterFault {
@@ -59,7 +60,7 @@ impl From<JournalFault> for EnterFault {
 }
 
 /// Why outboxes are not closed.
-#[derive(Clone, Copy, Debug, PartialEq, Eq, Error)]
+#[derive(Debug, Drop, Error)]
 pub enum CloseFault {
     /// Memory ran out.
     #[error("out of memory")]
@@ -67,9 +68,9 @@ pub enum CloseFault {
     /// There would be more than `MAX_ENTRIES` entries.
     #[error("too many entries")]
     Limit,
-    /// The wire to this destination has no room.
+    /// The wire to a destination had no room.
     #[error("a full wire")]
-    Full(ServerIndex),
+    Full(FullWire),
 }
 
 impl From<JournalFault> for CloseFault {
@@ -217,15 +218,15 @@ impl<N: Naming> SendingJournal<N> {
         requires dests { dests_of loads.items ≡ dests }
         requires same { AreAll (load_of offered) loads.items }
         ensures entered { Enters offered dests self.old client.old result self.new client.new }
-        ensures within { IfErr result (FullIsWithin (length N.wires)) }
+        ensures full { IfErr result (FullIsOf N.wires) }
     {
         if self.is_shut {
             return Err(EnterFault::ShutDown);
         }
         let loads = those_open(&self.journal, loads);
         make_room(&mut self.journal, loads.len())?;
-        if let Some(dest) = full_among(rt, &mut self.ends, &loads) {
-            return Err(EnterFault::Full(dest));
+        if let Some(full) = full_among(rt, &mut self.ends, &loads) {
+            return Err(EnterFault::Full(full));
         }
         pass_all_on::<N, R>(rt, &mut self.journal, &mut self.ends, &offered, loads);
         client.note(&mut self.events, &mut self.edus, &offered);
@@ -252,14 +253,14 @@ impl<N: Naming> SendingJournal<N> {
     pub fn close<R: Wait>(&mut self, rt: &R, dest: ServerIndex) -> Result<bool, CloseFault>
         requires { dest < length N.wires }
         ensures closed { Closes dest self.old result self.new }
-        ensures within { IfErr result (CloseFullIsWithin (length N.wires)) }
+        ensures full { IfErr result (CloseFullIsOf N.wires) }
     {
         let Some(place) = self.journal.place(dest) else {
             return Ok(false);
         };
         make_room(&mut self.journal, 0)?;
-        if !has_room(rt, &mut self.ends, dest) {
-            return Err(CloseFault::Full(dest));
+        if let Some(full) = full_at(rt, &mut self.ends, dest) {
+            return Err(CloseFault::Full(full));
         }
         let end = &mut self.ends[dest.place()];
         close_open(rt, &mut self.journal, end, place);
@@ -279,15 +280,15 @@ impl<N: Naming> SendingJournal<N> {
     pub fn shut_down<R: Wait>(&mut self, rt: &R, own: ServerIndex) -> Result<(), CloseFault>
         requires { own ≡ N.own }
         ensures shut { ShutsDown (length N.wires) N.own self.old result self.new }
-        ensures within { IfErr result (CloseFullIsWithin (length N.wires)) }
+        ensures full { IfErr result (CloseFullIsOf N.wires) }
     {
         if self.is_shut {
             return Ok(());
         }
         let open = others_open(&self.journal, own, self.ends.len());
         make_places(&mut self.journal, open)?;
-        if let Some(dest) = full_other(rt, &self.journal, &mut self.ends, own) {
-            return Err(CloseFault::Full(dest));
+        if let Some(full) = full_other(rt, &self.journal, &mut self.ends, own) {
+            return Err(CloseFault::Full(full));
         }
         close_others::<N, R>(rt, &mut self.journal, &mut self.ends, own);
         self.is_shut = true;

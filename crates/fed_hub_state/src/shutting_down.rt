@@ -4,12 +4,13 @@ ghost use Rattle.fed_journal.specs.Journal.{placed};
 ghost use Rattle.fed_hub_state.specs.ShuttingDown.{is_other_open, others_open, has_places, HasNoPlaces};
 ghost use Rattle.fed_hub_state.specs.ShuttingDownParts.{ClosesOther, IsBeingShut};
 ghost use Rattle.fed_hub_state.specs.Spreading.{AreSent};
-ghost use Rattle.fed_hub_state.specs.WireRoom.{HaveRoom, HaveTakenIn};
+ghost use Rattle.fed_hub_state.specs.WireRoom.{HaveRoom, HaveTakenIn, WasFull};
 
+use crate::full_wire::FullWire;
 use crate::in_place::InPlace;
 use crate::naming::Naming;
 use crate::sending_journal::close_open;
-use crate::spreading::has_room;
+use crate::spreading::full_at;
 use fed_dest::{MAX_SERVERS, ServerIndex};
 use fed_journal::{Journal, JournalFault, Parcel};
 use fed_wires::SendEnd;
@@ -42,21 +43,23 @@ pub(crate) fn make_places(journal: &mut Journal, count: usize) -> Result<(), Jou
     journal.reserve(count as u64)
 }
 
-/// The first server but the own one whose outbox is open and whose wire has no room for a parcel.
+/// The wire to the first server but the own one whose outbox is open and whose wire has no room for a parcel.
 pub(crate) fn full_other<R: Wait>(
     rt: &R,
     journal: &Journal,
     ends: &mut [SendEnd<Parcel, InPlace>],
     own: ServerIndex,
-) -> Option<ServerIndex>
+) -> Option<FullWire>
     requires { length ends.old ≤ MAX_SERVERS }
     ensures same { HaveTakenIn ends.old ends.new }
-    ensures full { MatchOption result (HaveRoom (λ d. is_other_open own journal.now.entries d ≡ true) ends.new) (λ d. (d < length ends.old) × (is_other_open own journal.now.entries d ≡ true)) }
+    ensures full { MatchOption result (HaveRoom (λ d. is_other_open own journal.now.entries d ≡ true) ends.new) (λ full. (is_other_open own journal.now.entries full.dest ≡ true) × WasFull ends.new full) }
 {
     for place in 0..ends.len() {
         let dest = ServerIndex::new(place);
-        if is_other_open(journal, own, dest) && !has_room(rt, ends, dest) {
-            return Some(dest);
+        if is_other_open(journal, own, dest) {
+            if let Some(full) = full_at(rt, ends, dest) {
+                return Some(full);
+            }
         }
     }
     None

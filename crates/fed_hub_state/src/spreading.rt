@@ -1,5 +1,5 @@
 // How a load goes over the wires to its destinations.
-ghost use Rattle.std.specs.Prelude.{◌≡◌, ◌≢◌, ◌<◌, ◌+◌, ◌++◌, ℕ, List, [], true, length, All, IsTrue, MatchBool, MatchOption};
+ghost use Rattle.std.specs.Prelude.{◌≡◌, ◌≢◌, ◌<◌, ◌+◌, ◌++◌, ℕ, List, [], true, length, All, MatchBool, MatchOption};
 ghost use Rattle.fed_wires.specs.SendEnd.{with_sent, with_returned};
 ghost use Rattle.std.specs.List.Sorted.{IsStrictlyIncreasing};
 ghost use Rattle.fed_dest.specs.ServerSet.{is_among};
@@ -7,8 +7,9 @@ ghost use Rattle.fed_journal.specs.Journal.{placed};
 ghost use Rattle.fed_journal.specs.Offered.{load_of};
 ghost use Rattle.fed_hub_state.specs.Spreading.{PassesOn, AreSent, AreAll, dests_of};
 ghost use Rattle.fed_hub_state.specs.SpreadingParts.{IsUnderWay};
-ghost use Rattle.fed_hub_state.specs.WireRoom.{HaveRoom, HaveTakenIn};
+ghost use Rattle.fed_hub_state.specs.WireRoom.{HaveRoom, HaveTakenIn, WasFull};
 
+use crate::full_wire::FullWire;
 use crate::in_place::InPlace;
 use crate::naming::Naming;
 use crate::unplaced::Unplaced;
@@ -17,32 +18,35 @@ use fed_journal::{Cause, Journal, Offered, Parcel};
 use fed_wires::SendEnd;
 use std::sync::Wait;
 
-/// Whether the wire to a destination has room for a parcel. It waits for no room.
-pub(crate) fn has_room<R: Wait>(
+/// The wire to a destination, where it has no room for a parcel. It waits for no room.
+pub(crate) fn full_at<R: Wait>(
     rt: &R,
     ends: &mut [SendEnd<Parcel, InPlace>],
     dest: ServerIndex,
-) -> bool
+) -> Option<FullWire>
     requires { dest < length ends.old }
     ensures same { HaveTakenIn ends.old ends.new }
-    ensures room { IsTrue result → HaveRoom (λ d. d ≡ dest) ends.new }
+    ensures full { MatchOption result (HaveRoom (λ d. d ≡ dest) ends.new) (λ full. (full.dest ≡ dest) × WasFull ends.new full) }
 {
-    ends[dest.place()].has_room(rt, 1)
+    match ends[dest.place()].reserve(rt, 1) {
+        Ok(()) => None,
+        Err(no_room) => Some(FullWire { dest, no_room }),
+    }
 }
 
-/// The first destination of these loads whose wire has no room for a parcel.
+/// The wire to the first destination of these loads where it has no room for a parcel.
 pub(crate) fn full_among<R: Wait>(
     rt: &R,
     ends: &mut [SendEnd<Parcel, InPlace>],
     loads: &[Unplaced],
-) -> Option<ServerIndex>
+) -> Option<FullWire>
     requires { All (λ d. d < length ends.old) (dests_of loads.now) }
     ensures same { HaveTakenIn ends.old ends.new }
-    ensures full { MatchOption result (HaveRoom (λ d. is_among (dests_of loads.now) d ≡ true) ends.new) (λ d. (d < length ends.old) × (is_among (dests_of loads.now) d ≡ true)) }
+    ensures full { MatchOption result (HaveRoom (λ d. is_among (dests_of loads.now) d ≡ true) ends.new) (λ full. (is_among (dests_of loads.now) full.dest ≡ true) × WasFull ends.new full) }
 {
     for unplaced in loads {
-        if !has_room(rt, ends, unplaced.dest) {
-            return Some(unplaced.dest);
+        if let Some(full) = full_at(rt, ends, unplaced.dest) {
+            return Some(full);
         }
     }
     None

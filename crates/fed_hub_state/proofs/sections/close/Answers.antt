@@ -10,7 +10,7 @@ closed_so : (d : ℕ) (old : SendingState) (told : Result Bool CloseFault) (new 
 closed_so d old _ _ (before shut) = ((λ cause. step.IsClosing.before shut), refl)
 closed_so d old _ _ (no_place running none) = ((λ cause. step.IsClosing.no_place running none), refl)
 closed_so d old _ _ (no_memory running fits) = (running, refl)
-closed_so d old _ _ (full running fits) = (running, refl, refl)
+closed_so d old _ _ (full wire running fits same) = (running, same, refl)
 closed_so d old _ _ (now cause running fits) = (cause, (refl, step.IsClosing.closed running fits))
 
 pub returns-clause-closed : goal.returns-clause-closed

@@ -24,7 +24,7 @@ offered_so : (p : PreparedEvent) (dests : List ℕ) (room : RoomState) (old : Se
 offered_so p dests room old client _ _ _ (shut_down is) = (is, refl, refl, refl)
 offered_so p dests room old client _ _ _ (no_place running none) = (running, refl, refl, refl, λ signer servers own draft made. step.IsOffered.no_place p dests made none)
 offered_so p dests room old client _ _ _ (no_memory running fits) = (running, refl, refl, refl)
-offered_so p dests room old client _ _ _ (full d running fits among) = (running, among, refl, refl, refl)
+offered_so p dests room old client _ _ _ (full wire running fits among) = (running, among, refl, refl, refl)
 offered_so p dests room old client _ _ _ (entered lost running fits are) =
     (lost, open_among (with_lost old.entries lost) dests, (running, running, refl, λ signer servers own draft made. step.IsOffered.sent p dests made fits are))
 

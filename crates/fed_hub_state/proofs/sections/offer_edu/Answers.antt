@@ -16,7 +16,7 @@ offered_so : (value : Data) (dests : List ℕ) (old : SendingState) (client : Cl
 offered_so value dests old client _ _ _ fine (shut_down is) = (is, refl, refl)
 offered_so value dests old client _ _ _ fine (no_place running none) = (running, step.IsEduOffered.no_place fine none, refl, refl)
 offered_so value dests old client _ _ _ fine (no_memory running fits) = (running, refl, refl)
-offered_so value dests old client _ _ _ fine (full d running fits among) = (running, among, refl, refl)
+offered_so value dests old client _ _ _ fine (full wire running fits among) = (running, among, refl, refl)
 offered_so value dests old client _ _ _ fine (entered lost running fits are) =
     (lost, open_among (with_lost old.entries lost) dests, (running, running, step.IsEduOffered.sent fine fits are, refl))
 

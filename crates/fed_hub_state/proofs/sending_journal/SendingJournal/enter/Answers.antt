@@ -7,7 +7,7 @@ use Rattle.std.proofs.lemmas.List.{with_items_is, length-map}
 use Rattle.fed_dest.specs.ServerSet.{is_among}
 use Rattle.fed_journal.specs.declared.entry.Entry.{Entry}
 use Rattle.fed_journal.specs.declared.parcel.Parcel.{Parcel}
-use Rattle.fed_journal.specs.Journal.{JournalState, is_closed}
+use Rattle.fed_journal.specs.Journal.{JournalState, is_closed, events_of, edus_of}
 use Rattle.fed_journal.specs.Offered.{entry_of, load_of}
 use Rattle.fed_journal.specs.Offering.{open_among, has_place}
 use Rattle.fed_hub_state.specs.declared.unplaced.Unplaced.{Unplaced}
@@ -18,9 +18,9 @@ use Rattle.fed_hub_state.specs.SendingJournal.{SendingState}
 use Rattle.fed_hub_state.specs.Spreading.{AreSent, AreAll, dests_of}
 use Rattle.fed_hub_state.specs.SpreadingParts.{IsUnderWay}
 use Rattle.fed_hub_state.specs.WireRoom.{HaveRoom, HaveTakenIn}
-use Rattle.fed_hub_state.proofs.WireRooms.{taken_sent}
+use Rattle.fed_hub_state.proofs.WireRooms.{taken_sent, full_named}
 use Rattle.fed_hub_state.specs.ClientToken.{event_count, edu_count}
-use Rattle.fed_hub_state.proofs.Entered.{dests_kept, all_kept, all_filtered, then_sent, then_events, then_edus, then_told, no_room_told, fault_within}
+use Rattle.fed_hub_state.proofs.Entered.{dests_kept, all_kept, all_filtered, then_sent, then_events, then_edus, then_told, no_room_told, not_full}
 use Rattle.fed_hub_state.proofs.sending_journal.SendingJournal.enter.Goals as goal
 
 pub returns-then-self-clause-entered : goal.returns-then-self-clause-entered
@@ -53,8 +53,8 @@ returns-in_err-make_room-clause-entered g c =
     (λ i. (c.self.view_is i, record { entries = sym c.in_err-make_room.ensures.entries i; is_shut = c.self.inside.is_shut }))
     (no_room_told c.args.offered c.args.dests old c.args.client.now c.len.result c.in_err-make_room.field-0.0 c.from_residual.result count c.if-self.false c.in_err-make_room.ensures.refused c.from_residual.ensures.0 c.from_residual.ensures.1)
 
-pub returns-in_err-make_room-clause-within : goal.returns-in_err-make_room-clause-within
-returns-in_err-make_room-clause-within g c = fault_within (length g.N.Naming.wires) c.in_err-make_room.field-0.0 c.from_residual.result c.from_residual.ensures.1
+pub returns-in_err-make_room-clause-full : goal.returns-in_err-make_room-clause-full
+returns-in_err-make_room-clause-full g c = not_full g.N.Naming.wires c.in_err-make_room.field-0.0 c.from_residual.result c.from_residual.ensures.1
 
 pub full_among-requires : goal.full_among-requires
 full_among-requires g c =
@@ -71,11 +71,32 @@ returns-in-Some-clause-entered g c =
     let old : SendingState = record { entries = c.self.inside.journal.entries; is_shut = c.self.inside.is_shut } in
     let count : c.len.result ≡ length (open_among old.entries c.args.dests) = c.len.ensures ∙ c.those_open-loads.result.ok.0 ∙ sym (length-map c.those_open-loads.result.items (λ (u : Unplaced). u.dest)) ∙ ap length are in
     let fits = ap (has_place old.entries) (sym count) ∙ c.in_ok-make_room.ensures.fits in
-    let among : is_among (open_among old.entries c.args.dests) c.in-Some.dest ≡ true =
-    ap (λ (ds : List ℕ). is_among ds c.in-Some.dest) (sym are) ∙ ap (λ (us : List Unplaced). is_among (dests_of us) c.in-Some.dest) (sym c.deref.ensures.value) ∙ c.in-Some.ensures.full.1 in
-    subst (λ (y : SendingState × SendingState). Enters c.args.offered c.args.dests y.0 c.args.client.now (Err (Full c.in-Some.dest)) y.1 c.args.client.now)
+    let d = c.in-Some.full.dest in
+    let among : is_among (open_among old.entries c.args.dests) d ≡ true =
+    ap (λ (ds : List ℕ). is_among ds d) (sym are) ∙ ap (λ (us : List Unplaced). is_among (dests_of us) d) (sym c.deref.ensures.value) ∙ c.in-Some.ensures.full.0 in
+    subst (λ (y : SendingState × SendingState). Enters c.args.offered c.args.dests y.0 c.args.client.now (Err (Full c.in-Some.full)) y.1 c.args.client.now)
     (λ i. (c.self.view_is i, record { entries = sym c.in_ok-make_room.ensures.entries i; is_shut = c.self.inside.is_shut }))
-    (full c.in-Some.dest c.if-self.false fits among)
+    (full c.in-Some.full c.if-self.false fits among)
+
+pub invariant_of-self-in-Some : goal.invariant_of-self-in-Some
+invariant_of-self-in-Some g c =
+    let new = c.full_among.new.ends in
+    let items = with_items_is c.self.inside.ends new (omega (arith, c.full_among.auto.ends, ap length c.deref_mut.ensures.value, c.self.inside.ends.ok.0)) in
+    let taken = subst (λ (es : List (Sender Parcel)). HaveTakenIn es new) c.deref_mut.ensures.value c.full_among.ensures.same in
+    let same = c.in_ok-make_room.ensures.entries in (
+      subst (λ (y : List Entry × List (Sender Parcel)). AreSent g.N.Naming.wires y.0 y.1) (λ i. (sym same i, sym items i))
+          (taken_sent g.N.Naming.wires c.self.inside.journal.entries c.self.inside.ends.items new c.self.invariant.0 taken),
+      c.self.invariant.1 ∙ ap (λ (es : List Entry). length (events_of es)) (sym same),
+      c.self.invariant.2 ∙ ap (λ (es : List Entry). length (edus_of es)) (sym same),
+      (λ is d within other. ap (λ (es : List Entry). is_closed es d) same ∙ c.self.invariant.3 is d within other),
+      c.self.invariant.4,
+    )
+
+pub returns-in-Some-clause-full : goal.returns-in-Some-clause-full
+returns-in-Some-clause-full g c =
+    let new = c.full_among.new.ends in
+    let taken = subst (λ (es : List (Sender Parcel)). HaveTakenIn es new) c.deref_mut.ensures.value c.full_among.ensures.same in
+    full_named g.N.Naming.wires c.self.inside.journal.entries c.self.inside.ends.items new c.in-Some.full c.self.invariant.0 taken c.in-Some.ensures.full.1
 
 pub pass_all_on-requires-clause-sent : goal.pass_all_on-requires-clause-sent
 pass_all_on-requires-clause-sent g c =

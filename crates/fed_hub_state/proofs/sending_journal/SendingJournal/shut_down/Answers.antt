@@ -10,8 +10,8 @@ use Rattle.fed_hub_state.specs.SendingJournal.{SendingState}
 use Rattle.fed_hub_state.specs.ShuttingDown.{ShutsDown, AreClosedInTurn, is_other_open, others_open, has_places}
 use Rattle.fed_hub_state.specs.Spreading.{AreSent}
 use Rattle.fed_hub_state.specs.WireRoom.{HaveRoom, HaveTakenIn}
-use Rattle.fed_hub_state.proofs.WireRooms.{taken_sent}
-use Rattle.fed_hub_state.proofs.Closed.{fault_within}
+use Rattle.fed_hub_state.proofs.WireRooms.{taken_sent, full_named}
+use Rattle.fed_hub_state.proofs.Closed.{not_full}
 use Rattle.fed_hub_state.proofs.Shuts.{events_stay, edus_stay, no_places_told}
 use Rattle.fed_hub_state.proofs.sending_journal.SendingJournal.shut_down.Goals as goal
 
@@ -44,22 +44,28 @@ close_others-requires-clause-places g c =
     let count = c.others_open-open.ensures ∙ (λ i. length (others_open (ends i) c.args.own (sym same i))) in
     (λ i. has_places (same i) (sym count i)) ∙ c.in_ok-make_places.ensures.places
 
-pub returns-in_err-make_places-clause-within : goal.returns-in_err-make_places-clause-within
-returns-in_err-make_places-clause-within g c = fault_within (length g.N.Naming.wires) c.in_err-make_places.field-0.0 c.from_residual.result c.from_residual.ensures.1
+pub returns-in_err-make_places-clause-full : goal.returns-in_err-make_places-clause-full
+returns-in_err-make_places-clause-full g c = not_full g.N.Naming.wires c.in_err-make_places.field-0.0 c.from_residual.result c.from_residual.ensures.1
 
 pub returns-in-Some-clause-shut : goal.returns-in-Some-clause-shut
 returns-in-Some-clause-shut g c =
     let n = length g.N.Naming.wires in
     let own = g.N.Naming.own in
-    let d = c.in-Some.dest in
+    let d = c.in-Some.full.dest in
     let old : SendingState = record { entries = c.self.inside.journal.entries; is_shut = c.self.inside.is_shut } in
     let ends : c.len.result ≡ n = c.len.ensures ∙ c.self.inside.ends.ok.0 ∙ c.self.invariant.0.count in
     let count : c.others_open-open.result ≡ length (others_open n own old.entries) = c.others_open-open.ensures ∙ (λ i. length (others_open (ends i) (c.requires i) old.entries)) in
     let fits : has_places old.entries (length (others_open n own old.entries)) ≡ true = ap (has_places old.entries) (sym count) ∙ c.in_ok-make_places.ensures.places in
-    let is : is_other_open own old.entries d ≡ true = (λ i. is_other_open (sym c.requires i) (sym c.in_ok-make_places.ensures.entries i) d) ∙ c.in-Some.ensures.full.1 in
-    subst (λ (y : SendingState × SendingState). ShutsDown n own y.0 (Err (Full d)) y.1)
+    let is : is_other_open own old.entries d ≡ true = (λ i. is_other_open (sym c.requires i) (sym c.in_ok-make_places.ensures.entries i) d) ∙ c.in-Some.ensures.full.0 in
+    subst (λ (y : SendingState × SendingState). ShutsDown n own y.0 (Err (Full c.in-Some.full)) y.1)
     (λ i. (c.self.view_is i, record { entries = sym c.in_ok-make_places.ensures.entries i; is_shut = c.self.inside.is_shut }))
-    (ShutsDown.full d c.if-self.false fits is)
+    (ShutsDown.full c.in-Some.full c.if-self.false fits is)
+
+pub returns-in-Some-clause-full : goal.returns-in-Some-clause-full
+returns-in-Some-clause-full g c =
+    let new = c.full_other.new.ends in
+    let taken = subst (λ (es : List (Sender Parcel)). HaveTakenIn es new) c.deref_mut.ensures.value c.full_other.ensures.same in
+    full_named g.N.Naming.wires c.self.inside.journal.entries c.self.inside.ends.items new c.in-Some.full c.self.invariant.0 taken c.in-Some.ensures.full.1
 
 pub close_others-requires-clause-sent : goal.close_others-requires-clause-sent
 close_others-requires-clause-sent g c =
