@@ -6,6 +6,7 @@ use Rattle.std.proofs.lemmas.List.{length-map}
 use Rattle.std.proofs.lemmas.Option.{slice_get-map}
 use Rattle.fed_event.specs.Checked.{CheckedEvent}
 use Rattle.fed_keys.specs.Keys.{Checks}
+use Rattle.fed_http.specs.Message.{RequestValue, Answer}
 use Rattle.fed_inbox.specs.History.{Point, one_more}
 use Rattle.fed_inbox.specs.Inbox.{InboxState}
 use Rattle.fed_inbox.specs.Receiver.{ReceiverState, IsInboxOf}
@@ -25,6 +26,7 @@ use Rattle.fed_hub_serving.specs.Wires.{WiresState, AreSent, running, ended_of, 
 use Rattle.fed_hub_serving.specs.WireRoom.{HaveTakenIn}
 use Rattle.fed_hub_serving.proofs.WireRooms.{taken_sent, taken_ended}
 use Rattle.fed_hub_serving.proofs.Sent.{mapped, all_served}
+use Rattle.fed_hub_serving.proofs.Spreads.{none_went}
 use Rattle.fed_hub_serving.proofs.Takes.{takes}
 
 -- ---- events on their way
@@ -94,6 +96,20 @@ module _ (names : List (WireId CheckedEvent)) (known : List (List ℕ)) (checks 
     shut = spread.shut;
     found = found;
   }
+
+-- a request whose transaction was taken before brings nothing
+module _ (names : List (WireId CheckedEvent)) (known : List (List ℕ)) (checks : Checks) (receiver : ReceiverState) (beginning : InboxState) (points : List Point) (inbox : InboxState) (w : WiresState)
+    (request : RequestValue) (reply : Answer) (whole : IsAnsweredWhole checks inbox request reply inbox []) where
+  abbrev pub again : Point
+  again = record { request = request; reply = reply; fresh = [] }
+
+  pub serves_again : IsServing names known checks receiver beginning points inbox w → IsServing names known checks receiver beginning (points ++ again ∷ []) inbox w
+  serves_again is = goes_on_serving names known checks receiver beginning points inbox w again inbox w whole (none_went known (length points) w) is is.server
+
+  pub is_served_again : reply.status ≢ 500
+      → IsServed checks known request (record { inbox = inbox; points = points; ended = ended_in w; is_shut = w.is_shut }) reply
+      (record { inbox = inbox; points = points ++ again ∷ []; ended = ended_in w; is_shut = w.is_shut })
+  is_served_again found = is_served names known checks receiver beginning points inbox w again inbox w whole (none_went known (length points) w) found
 
 -- ---- wires take in credits
 

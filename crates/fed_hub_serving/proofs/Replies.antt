@@ -15,7 +15,6 @@ use Rattle.fed_inbox.specs.Reply.{refused}
 use Rattle.fed_stream.specs.Reading.{Reads, IsUnread}
 use Rattle.fed_stream.specs.declared.unread.Unread.TheVariants.{Http}
 use Rattle.std.specs.Prelude.{IfOk}
-use Rattle.fed_hub_serving.specs.declared.full_wire.FullWire.{FullWire}
 use Rattle.fed_hub_serving.specs.declared.inbox_reply.InboxReply.{InboxReply}
 use Rattle.fed_hub_serving.specs.declared.served.Served.{Served}
 use Rattle.fed_hub_serving.specs.Locked.{IsLockedReply}
@@ -42,11 +41,15 @@ module _ (checks : Checks) (known : List (List ℕ)) (beginning : InboxState) (r
     numbered _ (no_memory is none takes) = (λ _. is, λ _. none)
     numbered _ (served new so some) = (λ none. absurd (none-some (length new.points) (sym none ∙ some)), λ is. absurd (so.found is))
 
--- the same of a request that may wait for room
-pub locked : (checks : Checks) (known : List (List ℕ)) (beginning : InboxState) (request : RequestValue) (old : ServingState) (told : Result InboxReply FullWire) (new : ServingState) → IsKeptFrom checks beginning old
+-- the same of a request that may be given back
+pub locked : {E : Type 0} (checks : Checks) (known : List (List ℕ)) (beginning : InboxState) (request : RequestValue) (old : ServingState) (told : Result InboxReply E) (new : ServingState) → IsKeptFrom checks beginning old
     → IfOk told (λ (r : InboxReply). RequestIsTaken checks known request old r.reply r.number new) → IfOk told (IsLockedReply checks beginning request)
 locked checks known beginning request old (Ok r) new history taken = (replied checks known beginning request old r.reply r.number new history taken, numbered checks known beginning request old r.reply r.number new taken)
-locked checks known beginning request old (Err full) new history taken = tt
+locked checks known beginning request old (Err back) new history taken = tt
+
+pub if_ok : {X E : Type 0} (told : Result X E) (P Q : X → Type 0) → ((x : X) → P x → Q x) → IfOk told P → IfOk told Q
+if_ok (Ok x) P Q then is = then x is
+if_ok (Err e) P Q then is = tt
 
 -- of want of memory it tells after any history
 pub replied_for_memory : (checks : Checks) (beginning : InboxState) (request : RequestValue) → IsInboxReply checks beginning request (refused OutOfMemory)
@@ -68,7 +71,7 @@ module _ (checks : Checks) (known : List (List ℕ)) (beginning : InboxState) wh
 
   -- where memory runs out for a request, it is told, and nothing is kept
   pub served_for_memory : (request : RequestValue) (inbox : Option ServingState) (given given' : List AnsweredValue) (old new : Option (List ℕ)) (told : Served) (reply : Answer) → reply ≡ refused OutOfMemory → given' ≡ given
-      → IsSent old new reply told → IsRequestServed checks known beginning request inbox inbox given given' old new told
+      → IsSent request.method old new reply told → IsRequestServed checks known beginning request inbox inbox given given' old new told
   served_for_memory request inbox given given' old new told reply is same sent = record {
     reply = reply;
     number = None;
@@ -81,15 +84,15 @@ module _ (checks : Checks) (known : List (List ℕ)) (beginning : InboxState) wh
   module _ (old new : Ends) where
     pub of_request : (request : RequestValue) → Reads Requests old.left new.left (Request request) → (told : Served)
         → IsRequestServed checks known beginning request old.inbox new.inbox old.given new.given old.written new.written told → IsServed checks known beginning old new told
-    of_request request reads (Answered status) so = (so.reply, to_request request so.number reads so.of_inbox so.taken so.kept, so.sent.0, so.sent.1)
-    of_request request reads WriteFault so = (so.reply, to_request request so.number reads so.of_inbox so.taken so.kept, so.sent)
+    of_request request reads (Answered status) so = (so.reply, request.method, to_request request so.number reads so.of_inbox so.taken so.kept, so.sent.0, so.sent.1)
+    of_request request reads WriteFault so = (so.reply, request.method, to_request request so.number reads so.of_inbox so.taken so.kept, so.sent)
     of_request request reads ReadFault so = absurd so.sent
     of_request request reads EndedEarly so = absurd so.sent
 
     pub of_fault : (fault : HttpFault) → IsUnread Requests old.left new.left (Http fault) → (reply : Answer) → reply ≡ reply_to fault → new.inbox ≡ old.inbox → new.given ≡ old.given → (told : Served)
-        → IsSent old.written new.written reply told → IsServed checks known beginning old new told
-    of_fault fault bytes reply is stays same (Answered status) sent = (reply, to_fault fault bytes is stays same, sent.0, sent.1)
-    of_fault fault bytes reply is stays same WriteFault sent = (reply, to_fault fault bytes is stays same, sent)
+        → IsSent [] old.written new.written reply told → IsServed checks known beginning old new told
+    of_fault fault bytes reply is stays same (Answered status) sent = (reply, [], to_fault fault bytes is stays same, sent.0, sent.1)
+    of_fault fault bytes reply is stays same WriteFault sent = (reply, [], to_fault fault bytes is stays same, sent)
     of_fault fault bytes reply is stays same ReadFault sent = absurd sent
     of_fault fault bytes reply is stays same EndedEarly sent = absurd sent
 

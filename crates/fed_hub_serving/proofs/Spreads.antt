@@ -10,7 +10,7 @@ use Rattle.fed_dest.specs.List.{place_of}
 use Rattle.fed_event.specs.Checked.{CheckedEvent}
 use Rattle.fed_event.specs.Fields.{room_id_of}
 use Rattle.fed_event.specs.Tests.{holds}
-use Rattle.fed_hub_serving.proofs.Places.{set_all}
+use Rattle.fed_wires.proofs.Places.{set_all}
 use Rattle.fed_inbox.specs.Queues.{for_place}
 use Rattle.fed_wires.specs.SendEnd.{with_returned}
 use Rattle.fed_hub_serving.specs.declared.bound.Bound.{Bound}

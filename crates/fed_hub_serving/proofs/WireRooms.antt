@@ -6,16 +6,19 @@ use Rattle.std.proofs.lemmas.Bool.{eq-eqb, eqb-true}
 use Rattle.std.proofs.lemmas.Option.{none-some, same_Some, slice_get_within}
 use Rattle.fed_event.specs.Checked.{CheckedEvent}
 use Rattle.fed_inbox.specs.History.{Point}
+use Rattle.fed_wires.specs.NoRoom.{Lack}
 use Rattle.fed_wires.specs.WireId.{WireId}
 use Rattle.fed_hub_serving.specs.declared.bound.Bound.{Bound}
 use Rattle.fed_hub_serving.specs.declared.end_place.EndPlace.{EndPlace}
+use Rattle.fed_hub_serving.specs.declared.full_wire.FullRoom.{FullRoom}
+use Rattle.fed_hub_serving.specs.declared.judged_request.JudgedRequest.{JudgedRequest}
 use Rattle.fed_hub_serving.specs.declared.room_wire.RoomWire.{RoomWire}
 use Rattle.fed_hub_serving.specs.declared.room_wire.EndedWire.{EndedWire}
 use Rattle.fed_hub_serving.specs.Spreading as spreads
 use Rattle.fed_hub_serving.specs.Spreading.{Goes, Passes}
 use Rattle.fed_hub_serving.specs.Wires.{WiresState, HasSent, AreSent, ended_of}
-use Rattle.fed_hub_serving.specs.WireRoom.{with_credits, HaveTakenIn, none, one_more, is_at, is_bound_for, count_for, HaveRoomTo, HaveRoom}
-use Rattle.fed_hub_serving.proofs.Places.{set_all}
+use Rattle.fed_hub_serving.specs.WireRoom.{with_credits, HaveTakenIn, none, one_more, is_at, is_bound_for, count_for, HaveRoomTo, HaveRoom, WasFull, IsFullOf}
+use Rattle.fed_wires.proofs.Places.{set_here, set_all}
 
 -- ---- wires that take in credits
 
@@ -144,6 +147,27 @@ room_at bound wires at room new is has k wire to here going =
     set_all (λ j (w : RoomWire). at ≡ Some j → w.ended ≡ None → count_for j bound ≤ w.end.room) wires room new (λ _ runs. has runs)
     (λ j w apart _ there _. absurd (apart (same_Some j room (sym there ∙ is)))) k wire here to going
 
+-- a wire that was asked for more credits than it has
+pub full_at : (bound : List Bound) (wires : List RoomWire) (k : ℕ) (wire new : RoomWire) (full : FullRoom) → k < length wires → new ≡ with_credits wire new.end.room → new.ended ≡ None → new.end.room < count_for k bound → full.room ≡ k
+    → full.no_room ≡ record { wire = wire.end.wire; count = count_for k bound } → WasFull bound (set wires k new) full
+full_at bound wires k wire new full within same runs few there shown = record {
+  wire = new;
+  here = ap (slice_get (set wires k new)) there ∙ set_here wires k new within;
+  runs = runs;
+  few = subst (λ j. new.end.room < count_for j bound) (sym there) few;
+  shown = shown ∙ (λ i. record { wire = (sym same i).end.wire; count = count_for (sym there i) bound });
+}
+
+-- its wire is the one of that name
+pub full_named : (names : List (WireId CheckedEvent)) (known : List (List ℕ)) (points : List Point) (w : WiresState) (judged : JudgedRequest) (bound : List Bound) (full : FullRoom) → AreSent names known points w
+    → bound ≡ judged.bound.items → WasFull bound w.wires full → IsFullOf names judged (record { judged = judged; room = full.room; no_room = full.no_room })
+full_named names known points w judged bound full are same was = record {
+  same = refl;
+  within = omega (arith, slice_get_within w.wires full.room was.wire was.here, are.count);
+  wire = (are.each full.room was.wire was.here).name ∙ ap (λ (l : Lack CheckedEvent). Some l.wire) (sym was.shown);
+  count = ap (λ (l : Lack CheckedEvent). l.count) was.shown ∙ ap (count_for full.room) same;
+}
+
 -- where no event is for a room it needs no room
 pub room_for_all : (bound : List Bound) (wires : List RoomWire) → HaveRoomTo (λ k. 0 < count_for k bound) bound wires → HaveRoom bound wires
 room_for_all bound wires has k wire _ here going = by (count_for k bound) (λ some. has k wire some here going)
@@ -195,6 +219,10 @@ module _ (bound : List Bound) (ended : List EndedWire) (running : List RoomWire)
   pub room_of_running : (is_shut : Bool) → (is_shut ≡ true → running ≡ []) → (is_shut ≡ false → ended ≡ []) → HaveRoom bound (map ended_of ended ++ running) → HaveRoom bound running
   room_of_running true shut runs has = λ k wire _ here going. absurd (none-some wire (ap (λ (ws : List RoomWire). slice_get ws k) (sym (shut refl)) ∙ here))
   room_of_running false shut runs has = subst (λ (es : List EndedWire). HaveRoom bound (map ended_of es ++ running)) (runs refl) has
+
+  pub full_of_all : (is_shut : Bool) → (is_shut ≡ true → running ≡ []) → (is_shut ≡ false → ended ≡ []) → (full : FullRoom) → WasFull bound running full → WasFull bound (map ended_of ended ++ running) full
+  full_of_all true shut runs full was = absurd (none-some was.wire (ap (λ (ws : List RoomWire). slice_get ws full.room) (sym (shut refl)) ∙ was.here))
+  full_of_all false shut runs full was = subst (λ (es : List EndedWire). WasFull bound (map ended_of es ++ running) full) (sym (runs refl)) was
 
 is_nothing : {X : Type 0} (xs : List X) → (xs ≡ []) ⊎ (xs ≢ [])
 is_nothing [] = inl refl

@@ -1,6 +1,7 @@
 pub mod Bound
 pub mod Brought
 pub mod Points
+pub mod Delivered
 pub mod JudgedRequest
 pub mod Answering
 pub mod Wires

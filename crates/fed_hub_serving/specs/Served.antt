@@ -1,12 +1,12 @@
 -- What becomes of one request that comes to a server (Matrix, Server-Server API, "Transactions"; Client-Server API, "Standard error response").
-use Rattle.std.specs.Prelude.{◌≡◌, ◌↔◌, ℕ, List, Option, Some, None}
+use Rattle.std.specs.Prelude.{◌≡◌, ◌↔◌, ℕ, List, [], Option, Some, None}
 use Rattle.std.specs.Io.KnownBytes.{Appends}
 use Rattle.fed_event.specs.Checked.{CheckedEvent}
 use Rattle.fed_keys.specs.Keys.{Checks}
 use Rattle.fed_http.specs.FaultReplies.{reply_to}
 use Rattle.fed_http.specs.Message.{RequestValue, Answer}
 use Rattle.fed_http.specs.Sending.{AppendsFront}
-use Rattle.fed_http.specs.Writing.{reply_bytes}
+use Rattle.fed_http.specs.Writing.{reply_bytes_to}
 use Rattle.fed_http.specs.declared.fault.HttpFault.{HttpFault}
 use Rattle.fed_http.specs.declared.message.Kind.TheVariants.{Requests}
 use Rattle.fed_http.specs.declared.message.Message.TheVariants.{Request}
@@ -48,14 +48,14 @@ pub record Ends : Type 0 where
   pub inbox : Option ServingState
   pub given : List AnsweredValue
 
--- The reply to what the reader held: to a request, which is kept with it and its number ("Transactions"); or to bytes that are none ("Standard
--- error response").
-pub data IsReply (checks : Checks) (known : List (List ℕ)) (beginning : InboxState) (old new : Ends) (reply : Answer) : Type 0 where
+-- The reply to what the reader held, and the method of what it answers: of a request, which is kept with it and its number ("Transactions"); or none,
+-- where the bytes are no request ("Standard error response").
+pub data IsReply (checks : Checks) (known : List (List ℕ)) (beginning : InboxState) (old new : Ends) (reply : Answer) : List ℕ → Type 0 where
   to_request : (request : RequestValue) (number : Option ℕ) → Reads Requests old.left new.left (Request request) → IsInboxReply checks beginning request reply
       → IsTakenIn checks known request reply number old.inbox new.inbox → new.given ≡ with_answered old.given request reply number
-      → IsReply checks known beginning old new reply
+      → IsReply checks known beginning old new reply request.method
   to_fault : (fault : HttpFault) → IsUnread Requests old.left new.left (unread.Http fault) → reply ≡ reply_to fault → new.inbox ≡ old.inbox → new.given ≡ old.given
-      → IsReply checks known beginning old new reply
+      → IsReply checks known beginning old new reply []
 
 -- nothing was written, and no request was answered
 pub record IsUntouched (old new : Ends) : Type 0 where
@@ -63,10 +63,12 @@ pub record IsUntouched (old new : Ends) : Type 0 where
   pub inbox : new.inbox ≡ old.inbox
   pub given : new.given ≡ old.given
 
--- What is told of it (this project's own): a reply was written whole, or a front of one; or the input failed or ended, and nothing was written.
+-- What is told of it (this project's own): a reply was written whole, to a HEAD its head alone (RFC 9110, section 9.3.2), or a front of one; or the
+-- input failed or ended, and nothing was written.
 abbrev pub IsServed : Checks → List (List ℕ) → InboxState → Ends → Ends → Served → Type 0
 IsServed checks known beginning old new (Answered status) =
-    (reply : Answer) × IsReply checks known beginning old new reply × Appends old.written new.written (reply_bytes reply) × (status ≡ reply.status)
-IsServed checks known beginning old new WriteFault = (reply : Answer) × IsReply checks known beginning old new reply × AppendsFront old.written new.written (reply_bytes reply)
+    (reply : Answer) × (method : List ℕ) × IsReply checks known beginning old new reply method × Appends old.written new.written (reply_bytes_to method reply) × (status ≡ reply.status)
+IsServed checks known beginning old new WriteFault =
+    (reply : Answer) × (method : List ℕ) × IsReply checks known beginning old new reply method × AppendsFront old.written new.written (reply_bytes_to method reply)
 IsServed checks known beginning old new ReadFault = IsUnread Requests old.left new.left unread.Read × IsUntouched old new
 IsServed checks known beginning old new EndedEarly = IsUnread Requests old.left new.left unread.EndedEarly × IsUntouched old new

@@ -4,7 +4,7 @@ use Rattle.std.specs.Io.KnownBytes.{Appends}
 use Rattle.fed_keys.specs.Keys.{Checks}
 use Rattle.fed_http.specs.Message.{RequestValue, Answer}
 use Rattle.fed_http.specs.Sending.{AppendsFront}
-use Rattle.fed_http.specs.Writing.{reply_bytes}
+use Rattle.fed_http.specs.Writing.{reply_bytes_to}
 use Rattle.fed_inbox.specs.Inbox.{InboxState}
 use Rattle.fed_hub_serving.specs.Answered.{AnsweredValue, with_answered}
 use Rattle.fed_hub_serving.specs.Served.{IsInboxReply, IsTakenIn}
@@ -12,12 +12,12 @@ use Rattle.fed_hub_serving.specs.Serving.{ServingState}
 use Rattle.fed_hub_serving.specs.declared.served.Served.{Served}
 use Rattle.fed_hub_serving.specs.declared.served.Served.TheVariants.{Answered, ReadFault, EndedEarly, WriteFault}
 
--- a reply was written: whole, and its status is told, or a front of it
-abbrev pub IsSent : Option (List ℕ) → Option (List ℕ) → Answer → Served → Type 0
-IsSent old new reply (Answered status) = Appends old new (reply_bytes reply) × (status ≡ reply.status)
-IsSent old new reply WriteFault = AppendsFront old new (reply_bytes reply)
-IsSent old new reply ReadFault = ⊥
-IsSent old new reply EndedEarly = ⊥
+-- a reply to this method was written: whole, and its status is told, or a front of it
+abbrev pub IsSent : List ℕ → Option (List ℕ) → Option (List ℕ) → Answer → Served → Type 0
+IsSent method old new reply (Answered status) = Appends old new (reply_bytes_to method reply) × (status ≡ reply.status)
+IsSent method old new reply WriteFault = AppendsFront old new (reply_bytes_to method reply)
+IsSent method old new reply ReadFault = ⊥
+IsSent method old new reply EndedEarly = ⊥
 
 -- a request was answered: the inbox's reply to it was sent, and both are kept with the number
 pub record IsRequestServed (checks : Checks) (known : List (List ℕ)) (beginning : InboxState) (request : RequestValue) (inbox inbox' : Option ServingState) (given given' : List AnsweredValue) (old new : Option (List ℕ)) (served : Served) : Type 0 where
@@ -26,4 +26,4 @@ pub record IsRequestServed (checks : Checks) (known : List (List ℕ)) (beginnin
   pub of_inbox : IsInboxReply checks beginning request reply
   pub taken : IsTakenIn checks known request reply number inbox inbox'
   pub kept : given' ≡ with_answered given request reply number
-  pub sent : IsSent old new reply served
+  pub sent : IsSent request.method old new reply served

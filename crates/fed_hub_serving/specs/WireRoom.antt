@@ -1,7 +1,12 @@
 -- Room in the wires of the rooms, by the credits in the hands of the ends that send.
-use Rattle.std.specs.Prelude.{◌≡◌, ◌≤◌, ◌==◌, ℕ, Bool, false, List, [], ◌∷◌, filter, length, Option, Some, None, slice_get}
+use Rattle.std.specs.Prelude.{◌≡◌, ◌<◌, ◌≤◌, ◌==◌, ℕ, Bool, false, List, [], ◌∷◌, filter, length, Option, Some, None, slice_get}
+use Rattle.fed_event.specs.Checked.{CheckedEvent}
 use Rattle.fed_wires.specs.SendEnd.{with_room}
+use Rattle.fed_wires.specs.WireId.{WireId}
 use Rattle.fed_hub_serving.specs.declared.bound.Bound.{Bound}
+use Rattle.fed_hub_serving.specs.declared.full_wire.FullRoom.{FullRoom}
+use Rattle.fed_hub_serving.specs.declared.full_wire.FullWire.{FullWire}
+use Rattle.fed_hub_serving.specs.declared.judged_request.JudgedRequest.{JudgedRequest}
 use Rattle.fed_hub_serving.specs.declared.room_wire.RoomWire.{RoomWire}
 
 -- so many credits are in hand; nothing was sent, and the wire has ended if it had
@@ -31,3 +36,18 @@ HaveRoomTo To bound wires = (k : ℕ) (wire : RoomWire) → To k → slice_get w
 -- all of them have
 abbrev pub HaveRoom : List Bound → List RoomWire → Type 0
 HaveRoom bound wires = HaveRoomTo (λ _. Unit {0}) bound wires
+
+-- the wire to this room has not ended and has not as many credits in hand as events are for the room; what shows it is of that wire and of so many
+pub record WasFull (bound : List Bound) (wires : List RoomWire) (full : FullRoom) : Type 0 where
+  pub wire : RoomWire
+  pub here : slice_get wires full.room ≡ Some wire
+  pub runs : wire.ended ≡ None
+  pub few : wire.end.room < count_for full.room bound
+  pub shown : full.no_room ≡ record { wire = wire.end.wire; count = count_for full.room bound }
+
+-- the same, of the names of the wires and of a request that comes back as it was judged
+pub record IsFullOf (names : List (WireId CheckedEvent)) (judged : JudgedRequest) (full : FullWire) : Type 0 where
+  pub same : full.judged ≡ judged
+  pub within : full.room < length names
+  pub wire : slice_get names full.room ≡ Some full.no_room.wire
+  pub count : full.no_room.count ≡ count_for full.room judged.bound.items

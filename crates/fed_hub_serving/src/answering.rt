@@ -1,11 +1,12 @@
 // What an inbox answers to a request that was judged apart from it.
-ghost use Rattle.std.specs.Prelude.{◌≡◌, ◌≢◌, ◌⊎◌, [], Result, IfOk, OnErr};
+ghost use Rattle.std.specs.Prelude.{◌≡◌, ◌≢◌, ◌⊎◌, [], Result, IfOk, IfSome, OnErr};
+ghost use Rattle.fed_inbox.specs.DeliveryParts.{delivered};
 ghost use Rattle.fed_hub_serving.specs.JudgedRequest.{reply_to, fresh_of};
-ghost use Rattle.fed_hub_serving.specs.Answering.{Answers};
+ghost use Rattle.fed_hub_serving.specs.Answering.{Answers, IsKeptFor};
 
-use fed_event::Checked;
+use fed_event::{Checked, Keys};
 use fed_http::Reply;
-use fed_inbox::{Inbox, Judged, Refusal};
+use fed_inbox::{Delivery, Inbox, Judged, Refusal};
 use fed_json::NoMemory;
 use fed_replies::ReplyStore;
 use std::alloc::Global;
@@ -42,6 +43,30 @@ pub(crate) fn answer<S: ReplyStore>(
     }
     let copy = copy_of(alloc, &reply, first)?;
     Ok(Answered { reply, copy, fresh })
+}
+
+// A body that brings nothing, and is refused where no reply is kept.
+const NOTHING: &[u8] = b"null";
+
+/// The reply that an inbox keeps for a transaction that is delivered, and an equal one. There is none where it keeps none, and where memory runs
+/// out. The inbox is as it was.
+pub(crate) fn kept_reply<K: Keys, S: ReplyStore>(
+    alloc: Global,
+    inbox: &mut Inbox<S>,
+    delivery: &Delivery,
+    keys: &K,
+) -> Option<(Reply, Reply)>
+    ensures kept { IfSome result (λ r. IsKeptFor inbox.old.state (delivered delivery.now) r.0) }
+    ensures copy { IfSome result (λ r. r.1 ≡ r.0) }
+    ensures same { inbox.new.state ≡ inbox.old.state }
+{
+    // Whatever the body, a kept reply is the answer.
+    let reply = inbox.answer_body(alloc, delivery.origin(), delivery.txn(), NOTHING, keys);
+    if reply.status() != 200 {
+        return None;
+    }
+    let copy = reply.copy(alloc).ok()?;
+    Some((reply, copy))
 }
 
 // The reply to a request that was judged, and the events that it brought for the rooms.

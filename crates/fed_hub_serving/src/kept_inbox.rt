@@ -1,24 +1,27 @@
 // An inbox under its lock.
-ghost use Rattle.std.specs.Prelude.{◌≡◌, ◌≢◌, ◌<◌, [], false, true, None, IfOk, IfErr, OnErr, length, replicate};
+ghost use Rattle.std.specs.Prelude.{◌≡◌, ◌≢◌, [], false, true, None, IfOk, IfErr, OnErr, length, replicate};
 ghost use Rattle.fed_inbox.specs.History.{IsHistory};
 ghost use Rattle.fed_inbox.specs.Receiver.{IsInboxOf};
 ghost use Rattle.fed_hub_serving.specs.Wires.{AreUnused, names_of};
+ghost use Rattle.fed_hub_serving.specs.Delivered.{IsDelivered};
 ghost use Rattle.fed_hub_serving.specs.JudgedRequest.{IsJudged};
 ghost use Rattle.fed_hub_serving.specs.Serving.{IsKeptFrom, AreLeft, with_rooms_ended};
 ghost use Rattle.fed_hub_serving.specs.Sections.{RequestIsTaken, IsServed};
 ghost use Rattle.fed_hub_serving.specs.Unserved.{IsUnserved};
+ghost use Rattle.fed_hub_serving.specs.WireRoom.{IsFullOf};
 
-use crate::answering::{Answered, answer};
+use crate::answering::{Answered, answer, kept_reply};
 use crate::bound::Bound;
+use crate::delivered_request::DeliveredRequest;
 use crate::end_place::EndPlace;
-use crate::full_wire::{FullWire, Unserved};
+use crate::full_wire::{FullRoom, FullWire, Unserved};
 use crate::inbox_reply::InboxReply;
 use crate::judged_request::JudgedRequest;
 use crate::kept_point::KeptPoint;
 use crate::naming::ServingNaming;
 use crate::room_wire::EndedWire;
 use crate::room_wires::RoomWires;
-use fed_event::Checked;
+use fed_event::{Checked, Keys};
 use fed_http::Reply;
 use fed_inbox::{Inbox, Refusal};
 use fed_json::NoMemory;
@@ -127,6 +130,40 @@ impl<N: ServingNaming, S: ReplyStore> KeptInbox<N, S> {
         self.wires.end_all(EndPlace { points, events: 0 });
     }
 
+    /// Answers a request that delivers a transaction which was taken before: with the kept reply. It is kept with it among the history; with the
+    /// reply this gives the number of the new point.
+    ///
+    /// # Errors
+    ///
+    /// Where no reply is kept for the transaction, or memory runs out; all is then as it was.
+    pub(crate) fn repeat<K: Keys>(
+        &mut self,
+        alloc: Global,
+        delivered: DeliveredRequest,
+        keys: &K,
+    ) -> Result<InboxReply, DeliveredRequest>
+        requires { IsDelivered N.checks N.receiver delivered }
+        ensures taken { IfOk result (λ r. RequestIsTaken N.checks N.known delivered.request self.old r.reply r.number self.new) }
+        ensures back { IfErr result (λ back. back ≡ delivered) }
+        ensures same { OnErr result (self.new ≡ self.old) }
+        ensures history { IsKeptFrom N.checks N.beginning self.old }
+    {
+        let Ok(()) = self.points.reserve(1) else {
+            return Err(delivered);
+        };
+        let delivery = &delivered.delivery;
+        let Some((reply, copy)) = kept_reply(alloc, &mut self.inbox, delivery, keys) else {
+            return Err(delivered);
+        };
+        let DeliveredRequest { request, .. } = delivered;
+        // There is room for it.
+        self.points
+            .push(KeptPoint::new(request, copy, Vec::new(alloc)))
+            .unwrap();
+        let number = Some(self.points.len() as u64);
+        Ok(InboxReply { reply, number })
+    }
+
     /// Answers a request that was judged apart from the inbox, keeps it with its reply among the history, and sends the events that it brings
     /// over the wires to their rooms. With the reply it gives the number of the new point. Where memory runs out it answers 500 without a
     /// number, and all is as it was.
@@ -142,7 +179,7 @@ impl<N: ServingNaming, S: ReplyStore> KeptInbox<N, S> {
     ) -> Result<InboxReply, FullWire>
         requires { IsJudged N.checks N.receiver N.known judged }
         ensures taken { IfOk result (λ r. RequestIsTaken N.checks N.known judged.request self.old r.reply r.number self.new) }
-        ensures full { IfErr result (λ full. (full.judged ≡ judged) × (full.room < length N.rooms)) }
+        ensures full { IfErr result (IsFullOf N.rooms judged) }
         ensures same { OnErr result (self.new ≡ self.old) }
         ensures history { IsKeptFrom N.checks N.beginning self.old }
     {
@@ -171,12 +208,16 @@ impl<N: ServingNaming, S: ReplyStore> KeptInbox<N, S> {
     ) -> Result<Reply, Unserved>
         requires { IsJudged N.checks N.receiver N.known judged }
         ensures served { IfOk result (λ reply. IsServed N.checks N.known judged.request self.old reply self.new) }
-        ensures unserved { IfErr result (IsUnserved (length N.rooms) judged) }
+        ensures unserved { IfErr result (IsUnserved N.rooms judged) }
         ensures err { OnErr result (self.new ≡ self.old) }
         ensures history { IsKeptFrom N.checks N.beginning self.old }
     {
-        if let Some(room) = self.wires.full_among(rt, &judged.bound) {
-            return Err(Unserved::Full(FullWire { judged, room }));
+        if let Some(FullRoom { room, no_room }) = self.wires.full_among(rt, &judged.bound) {
+            return Err(Unserved::Full(FullWire {
+                judged,
+                room,
+                no_room,
+            }));
         }
         let JudgedRequest {
             request,

@@ -8,6 +8,7 @@
 //! - `inbox_reply`: `InboxReply`, the reply to a request, and the number of its point in the history
 //! - `room_wires`: the ends that send of the rooms' wires, and how events go over them
 //! - `room_wire`: `EndedWire`, a wire that has ended; `end_place`: `EndPlace`, where
+//! - `delivered_request`: `DeliveredRequest`, a request that was read apart from the inbox, with the transaction that it delivers
 //! - `judged_request`: `JudgedRequest`, a request that was read and judged apart from the inbox
 //! - `bound`: events on their way to their rooms
 //! - `answering`: what an inbox answers to a request that was judged
@@ -23,6 +24,7 @@ mod access;
 mod answering;
 mod bound;
 mod comparing;
+mod delivered_request;
 mod end_place;
 mod full_wire;
 mod inbox_reply;
@@ -38,6 +40,7 @@ mod served;
 mod serving;
 
 pub use access::{InboxAccess, LockedInbox, SharedInbox};
+pub use delivered_request::DeliveredRequest;
 pub use end_place::EndPlace;
 pub use full_wire::FullWire;
 pub use inbox_reply::InboxReply;

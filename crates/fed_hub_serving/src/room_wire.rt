@@ -1,5 +1,5 @@
 // The wire of a room.
-ghost use Rattle.std.specs.Prelude.{◌≡◌, ◌<◌, ◌≤◌, None, IsTrue, MatchBool};
+ghost use Rattle.std.specs.Prelude.{◌≡◌, ◌<◌, ◌≤◌, None, IfErr, MatchBool, OnOk};
 ghost use Rattle.fed_wires.specs.SendEnd.{with_sent, with_returned};
 ghost use Rattle.fed_hub_serving.specs.Spreading.{Goes};
 ghost use Rattle.fed_hub_serving.specs.WireRoom.{with_credits};
@@ -7,7 +7,7 @@ ghost use Rattle.fed_hub_serving.specs.Wires.{ended_at, ended_of};
 
 use crate::end_place::EndPlace;
 use fed_event::Checked;
-use fed_wires::{AnyMessage, Credit, SendEnd, SendPass};
+use fed_wires::{AnyMessage, Credit, NoRoom, SendEnd, SendPass};
 use std::sync::Wait;
 
 /// The end that sends of a room's wire, and where the wire ended, if it has.
@@ -18,13 +18,21 @@ pub(crate) struct RoomWire {
 }
 
 impl RoomWire {
-    /// Whether it may be sent so many events more: there is room for them, or it has ended and takes none. It waits for no room.
-    pub(crate) fn has_room<R: Wait>(&mut self, rt: &R, count: usize) -> bool
+    /// Takes in credits until it may be sent so many events more; where it has ended it takes none. It waits for no room.
+    ///
+    /// # Errors
+    ///
+    /// Where it has not ended and has no room for them.
+    pub(crate) fn reserve<R: Wait>(&mut self, rt: &R, count: usize) -> Result<(), NoRoom<Checked>>
         ensures same { self.new ≡ with_credits self.old self.new.end.room }
         ensures more { self.old.end.room ≤ self.new.end.room }
-        ensures room { IsTrue result → self.new.ended ≡ None → count ≤ self.new.end.room }
+        ensures room { OnOk result (self.new.ended ≡ None → count ≤ self.new.end.room) }
+        ensures full { IfErr result (λ no_room. (self.new.ended ≡ None) × (self.new.end.room < count) × (no_room ≡ record { wire = self.old.end.wire; count = count })) }
     {
-        self.ended.is_some() || self.end.has_room(rt, count)
+        match self.ended {
+            Some(_) => Ok(()),
+            None => self.end.reserve(rt, count),
+        }
     }
 
     /// Waits until there is more room, or until the other end is gone.

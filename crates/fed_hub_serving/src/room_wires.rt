@@ -3,11 +3,12 @@ ghost use Rattle.std.specs.Prelude.{◌≡◌, ◌+◌, ◌<◌, ◌≤◌, ◌+
 ghost use Rattle.fed_hub_serving.specs.Bound.{AreBound, events_in};
 ghost use Rattle.fed_hub_serving.specs.Brought.{end_place};
 ghost use Rattle.fed_hub_serving.specs.Spreading.{Passes, SpreadAll};
-ghost use Rattle.fed_hub_serving.specs.WireRoom.{HaveTakenIn, HaveRoom, HaveRoomTo, is_bound_for, count_for};
+ghost use Rattle.fed_hub_serving.specs.WireRoom.{HaveTakenIn, HaveRoom, HaveRoomTo, WasFull, is_bound_for, count_for};
 ghost use Rattle.fed_hub_serving.specs.Wires.{running, ended_of, ended_at, all_ended};
 
 use crate::bound::Bound;
 use crate::end_place::EndPlace;
+use crate::full_wire::FullRoom;
 use crate::naming::ServingNaming;
 use crate::room_wire::{EndedWire, RoomWire};
 use fed_event::Checked;
@@ -70,11 +71,11 @@ impl RoomWires {
         &self.ended
     }
 
-    /// The place of a room of these events whose wire has no room for all that are for it, where there is one. It waits for no room.
-    pub(crate) fn full_among<R: Wait>(&mut self, rt: &R, bound: &[Bound]) -> Option<usize>
+    /// A room of these events whose wire has no room for all that are for it, where there is one. It waits for no room.
+    pub(crate) fn full_among<R: Wait>(&mut self, rt: &R, bound: &[Bound]) -> Option<FullRoom>
         ensures same { HaveTakenIn self.old.wires self.new.wires }
         ensures shut { self.new.is_shut ≡ self.old.is_shut }
-        ensures full { MatchOption result (HaveRoom bound.now self.new.wires) (λ k. k < length self.old.wires) }
+        ensures full { MatchOption result (HaveRoom bound.now self.new.wires) (WasFull bound.now self.new.wires) }
     {
         full_among(rt, &mut self.running, bound)
     }
@@ -145,23 +146,28 @@ impl RoomWires {
     }
 }
 
-// The place of a room of these events whose wire has no room for all that are for it.
-fn full_among<R: Wait>(rt: &R, wires: &mut [RoomWire], bound: &[Bound]) -> Option<usize>
+// A room of these events whose wire has no room for all that are for it.
+fn full_among<R: Wait>(rt: &R, wires: &mut [RoomWire], bound: &[Bound]) -> Option<FullRoom>
     ensures same { HaveTakenIn wires.old wires.new }
-    ensures full { MatchOption result (HaveRoom bound.now wires.new) (λ k. k < length wires.old) }
+    ensures full { MatchOption result (HaveRoom bound.now wires.new) (WasFull bound.now wires.new) }
 {
     for one in bound {
-        if let Some(room) = full_for(rt, wires, one, bound) {
-            return Some(room);
+        if let Some(full) = full_for(rt, wires, one, bound) {
+            return Some(full);
         }
     }
     None
 }
 
-// The place of the room of an event, where its wire has no room for all of these events that are for it.
-fn full_for<R: Wait>(rt: &R, wires: &mut [RoomWire], one: &Bound, bound: &[Bound]) -> Option<usize>
+// The room of an event, where its wire has no room for all of these events that are for it.
+fn full_for<R: Wait>(
+    rt: &R,
+    wires: &mut [RoomWire],
+    one: &Bound,
+    bound: &[Bound],
+) -> Option<FullRoom>
     ensures same { HaveTakenIn wires.old wires.new }
-    ensures full { MatchOption result (HaveRoomTo (λ k. one.now.room ≡ Some k) bound.now wires.new) (λ k. k < length wires.old) }
+    ensures full { MatchOption result (HaveRoomTo (λ k. one.now.room ≡ Some k) bound.now wires.new) (WasFull bound.now wires.new) }
 {
     let room = one.room?;
     if room >= wires.len() {
@@ -169,10 +175,10 @@ fn full_for<R: Wait>(rt: &R, wires: &mut [RoomWire], one: &Bound, bound: &[Bound
     }
     let count = count_for(bound, room);
     let wire = &mut wires[room];
-    if wire.has_room(rt, count) {
-        return None;
+    match wire.reserve(rt, count) {
+        Ok(()) => None,
+        Err(no_room) => Some(FullRoom { room, no_room }),
     }
-    Some(room)
 }
 
 // How many of these events are for the room at this place.

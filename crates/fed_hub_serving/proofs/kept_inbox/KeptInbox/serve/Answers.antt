@@ -10,7 +10,7 @@ use Rattle.fed_hub_serving.specs.Sections.{IsServed}
 use Rattle.fed_hub_serving.specs.Serving.{ServingState, ended_in, IsServing}
 use Rattle.fed_hub_serving.specs.Spreading.{SpreadAll}
 use Rattle.fed_hub_serving.specs.WireRoom.{HaveRoom}
-use Rattle.fed_hub_serving.proofs.WireRooms.{room_of_sent}
+use Rattle.fed_hub_serving.proofs.WireRooms.{room_of_sent, full_named}
 use Rattle.fed_hub_serving.proofs.KeptStates.{goes_as_bound, goes_on_serving, is_served, still_serving, same_state, on_err}
 use Rattle.fed_hub_serving.proofs.Takes.{answers_request, still_of_server}
 use Rattle.fed_hub_serving.proofs.kept_inbox.KeptInbox.serve.Goals as goal
@@ -96,6 +96,14 @@ invariant_of-self g c =
 
 pub returns-in-Some-clause-err : goal.returns-in-Some-clause-err
 returns-in-Some-clause-err g c = let k = c.self.inside in same_state k.wires c.full_among.new.self c.full_among.ensures.same c.full_among.ensures.shut k.points.items k.inbox.state ∙ c.self.view_is
+
+pub returns-in-Some-clause-unserved : goal.returns-in-Some-clause-unserved
+returns-in-Some-clause-unserved g c =
+    let N = g.N.ServingNaming in
+    let k = c.self.inside in
+    let new = c.full_among.new.self in
+    let is = still_serving k.wires new c.full_among.ensures.same c.full_among.ensures.shut N.rooms N.known N.checks N.receiver N.beginning k.points.items k.inbox.state c.self.invariant in
+    full_named N.rooms N.known k.points.items new c.args.judged c.deref.result.now _ is.sent c.deref.ensures.value c.in-Some.ensures.full
 
 pub invariant_of-self-in_err-reserve : goal.invariant_of-self-in_err-reserve
 invariant_of-self-in_err-reserve g c =

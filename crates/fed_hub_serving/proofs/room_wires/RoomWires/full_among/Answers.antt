@@ -1,11 +1,11 @@
-use Rattle.std.proofs.Common.{arith, ◌≡◌, ◌<◌, ◌++◌, List, map, length, length-append, sym, ap, ◌∙◌, subst}
+use Rattle.std.proofs.Common.{arith, ◌≡◌, ◌<◌, ◌++◌, [], true, List, map, length, sym, ap, ◌∙◌, subst}
 use Rattle.std.specs.Vec.{with_items}
 use Rattle.std.proofs.lemmas.List.{with_items_is}
 use Rattle.fed_hub_serving.specs.declared.room_wire.RoomWire.{RoomWire}
 use Rattle.fed_hub_serving.specs.Wires.{WiresState, ended_of}
-use Rattle.fed_hub_serving.specs.WireRoom.{HaveTakenIn, HaveRoom}
+use Rattle.fed_hub_serving.specs.WireRoom.{HaveTakenIn, HaveRoom, WasFull}
 use Rattle.fed_hub_serving.proofs.Wiring.{all}
-use Rattle.fed_hub_serving.proofs.WireRooms.{taken_behind, room_of_all, nothing_then, told_of}
+use Rattle.fed_hub_serving.proofs.WireRooms.{taken_behind, room_of_all, full_of_all, nothing_then, told_of}
 use Rattle.fed_hub_serving.proofs.room_wires.RoomWires.full_among.Goals as goal
 
 pub returns-clause-same : goal.returns-clause-same
@@ -24,9 +24,9 @@ returns-clause-full g c =
     let v = with_items w.running new in
     let items = with_items_is w.running new (omega (arith, c.full_among.auto.wires, ap length c.deref_mut.ensures.value, w.running.ok.0)) in
     let count : length v.items ≡ length w.running.items = ap length items ∙ c.full_among.auto.wires ∙ ap length c.deref_mut.ensures.value in
-    let whole : length c.args.self.now.wires ≡ length (map ended_of w.ended.items ++ w.running.items) = ap (λ (s : WiresState). length s.wires) (sym c.self.view_is) in
-    let most = length-append (map ended_of w.ended.items) w.running.items in
-    told_of c.full_among.result (HaveRoom c.args.bound.now new) (HaveRoom c.args.bound.now (map ended_of w.ended.items ++ v.items)) (λ k. k < length c.deref_mut.result.now) (λ k. k < length c.args.self.now.wires)
-    (λ has. room_of_all c.args.bound.now w.ended.items v.items w.is_shut (λ shut. nothing_then w.running.items v.items (c.self.invariant.shut shut) count) c.self.invariant.runs
-    (subst (HaveRoom c.args.bound.now) (sym items) has))
-    (λ k within. omega (arith, within, ap length c.deref_mut.ensures.value, whole, most)) c.full_among.ensures.full
+    let shut : w.is_shut ≡ true → v.items ≡ [] = λ is. nothing_then w.running.items v.items (c.self.invariant.shut is) count in
+    let bound = c.args.bound.now in
+    let all = map ended_of w.ended.items ++ v.items in
+    told_of c.full_among.result (HaveRoom bound new) (HaveRoom bound all) (WasFull bound new) (WasFull bound all)
+    (λ has. room_of_all bound w.ended.items v.items w.is_shut shut c.self.invariant.runs (subst (HaveRoom bound) (sym items) has))
+    (λ full was. full_of_all bound w.ended.items v.items w.is_shut shut c.self.invariant.runs full (subst (λ (ws : List RoomWire). WasFull bound ws full) (sym items) was)) c.full_among.ensures.full
