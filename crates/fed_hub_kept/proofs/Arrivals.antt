@@ -1,5 +1,5 @@
 -- Events that were brought, taken one after another off what is left of the rooms that they are for.
-use Rattle.std.proofs.Common.{arith, rules, ◌≡◌, ◌≢◌, ◌↔◌, ◌⊎◌, inl, inr, ℕ, zero, suc, ◌+◌, ◌-◌, ◌<◌, ◌≤◌, ◌==◌, take, Bool, false, if◌then◌else◌, List, [], ◌∷◌, ◌++◌, length, drop, set, map, get_or, Option, Some, None, option_map, All, refl, sym, ap, ◌∙◌, subst, drop-cons, add-one, length-set, length-drop, append-nil}
+use Rattle.std.proofs.Common.{arith, rules, ◌≡◌, ◌≢◌, ◌↔◌, ◌⊎◌, inl, inr, ℕ, suc, ◌+◌, ◌-◌, ◌<◌, ◌≤◌, ◌==◌, take, Bool, false, if◌then◌else◌, List, [], ◌∷◌, ◌++◌, length, drop, set, map, get_or, Option, Some, None, option_map, All, refl, sym, ap, ◌∙◌, subst, drop-cons, add-one, length-drop, append-nil}
 use Rattle.std.specs.Borrow.{Bor}
 use Rattle.std.specs.List.{slice_get}
 use Rattle.std.proofs.lemmas.Bool.{eq-eqb, ne_eqb, cases_eq}
@@ -14,6 +14,7 @@ use Rattle.fed_event.specs.Tests.{holds}
 use Rattle.fed_dest.specs.List.{place_of}
 use Rattle.fed_inbox.specs.History.{Point, brought}
 use Rattle.fed_inbox.specs.Queues.{for_place}
+use Rattle.fed_wires.proofs.Places.{set_here, set_there, set_all}
 use Rattle.fed_hub_kept.specs.Received.{received}
 use Rattle.fed_hub_kept.specs.Brought.{AreBrought}
 use Rattle.fed_hub_kept.specs.Unfound.{events_for, AreFronts, IsBehind, IsNotNext}
@@ -52,30 +53,6 @@ written old new n all same =
 
 pub rest_of : {X : Type 0} (xs : List X) (i : ℕ) → take (length xs - i) (drop i xs) ≡ drop i xs
 rest_of xs i = take_all (length xs - i) (drop i xs) (omega (arith, length-drop i xs))
-
-module _ {X : Type 0} where
-  set_here : (xs : List X) (i : ℕ) (y : X) → i < length xs → slice_get (set xs i y) i ≡ Some y
-  set_here [] i y h = absurd (omega arith)
-  set_here (x ∷ xs) zero y h = refl
-  set_here (x ∷ xs) (suc i) y h = set_here xs i y (omega arith)
-
-  set_there : (xs : List X) (i d : ℕ) (y : X) → d ≢ i → slice_get (set xs i y) d ≡ slice_get xs d
-  set_there [] i d y ne = refl
-  set_there (x ∷ xs) zero zero y ne = absurd (ne refl)
-  set_there (x ∷ xs) zero (suc d) y ne = refl
-  set_there (x ∷ xs) (suc i) zero y ne = refl
-  set_there (x ∷ xs) (suc i) (suc d) y ne = set_there xs i d y (λ e. ne (ap suc e))
-
-  set_all : (P : ℕ → X → Type 0) (xs : List X) (i : ℕ) (y : X) → P i y → ((d : ℕ) (x : X) → d ≢ i → slice_get xs d ≡ Some x → P d x)
-      → (d : ℕ) (x : X) → slice_get (set xs i y) d ≡ Some x → P d x
-  set_all P xs i y this others d x here = by (cases_eq d i)
-    where
-      by : (d ≡ i) ⊎ (d ≢ i) → P d x
-      by (inl same) =
-          let within : i < length xs = omega (arith, slice_get_within (set xs i y) d x here, length-set xs i y, same) in
-          let new : y ≡ x = same_Some y x (sym (set_here xs i y within) ∙ ap (slice_get (set xs i y)) (sym same) ∙ here) in
-          subst (λ k. P k x) (sym same) (subst (P i) new this)
-      by (inr other) = others d x other (sym (set_there xs i d y other) ∙ here)
 
 -- the first event by which one came
 pub came_first : (inputs : List Input) (i : ℕ) (input : Input) (came : CheckedEvent) → i < length inputs → input ≡ get_or inputs i input → input ≡ Receive came

@@ -4,7 +4,7 @@ use denote.Param.Send.{IsSend, sendable, view_send}
 use Rattle.std.proofs.Crossing as crossing
 use Rattle.std.proofs.MapsCrossing as maps
 use Rattle.std.proofs.vec.Vec.TheSendSync as vec
-use Rattle.serde_json.proofs.value.Value.TheLaws.TheKnot
+use Rattle.fed_json.proofs.tree.Tree.TheLaws.TheKnot
 use Rattle.fed_event.specs.contracts.checked.Checked as checked
 use Rattle.fed_wires.specs.contracts.ends.ReceiveEnd as receiver
 use Rattle.fed_wires.proofs.ends.ReceiveEnd.TheSendSync as receive
