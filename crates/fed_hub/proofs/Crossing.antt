@@ -21,7 +21,7 @@ use Rattle.fed_wires.proofs.board.Board.TheSendSync as board
 use Rattle.fed_wires.proofs.board.Seat.TheSendSync as board_seat
 use Rattle.fed_wires.proofs.credits.Credits.TheSendSync as credits
 use Rattle.fed_hub_state.proofs.Crossing.{declared_send, declared_sync, parcel_send, receive_end_send, kept_room_send, seated_outbox_send, sending_journal_send}
-use Rattle.serde_json.proofs.value.Value.TheLaws.TheKnot
+use Rattle.fed_json.proofs.tree.Tree.TheLaws.TheKnot
 use Rattle.fed_hub_told.specs.contracts.told.Told as told
 use Rattle.fed_hub_state.proofs.client_token.ClientToken.TheSendSync as share
 use Rattle.fed_hub_state.specs.declared.naming.Naming as naming

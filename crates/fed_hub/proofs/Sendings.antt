@@ -26,11 +26,13 @@ use Rattle.fed_hub_state.specs.Sections.{EventIsOffered}
 use Rattle.fed_hub_state.specs.SendingJournal.{SendingState}
 use Rattle.fed_hub.specs.declared.faults.SendFault.{SendFault}
 use Rattle.fed_hub.specs.declared.offering.Sent.{Sent}
-use Rattle.fed_hub_state.specs.EnterFault.{FullIsWithin}
+use Rattle.fed_journal.specs.declared.parcel.Parcel.{Parcel}
+use Rattle.fed_wires.specs.WireId.{WireId}
+use Rattle.fed_hub_state.specs.EnterFault.{FullIsOf}
 use Rattle.fed_hub.specs.declared.faults.SendFault.TheVariants as send
 use Rattle.fed_hub.specs.declared.offering.Unsent.{Unsent}
 use Rattle.fed_hub.specs.declared.offering.Unsent.TheVariants.{Refused, Full}
-use Rattle.fed_hub.specs.Faults.{IsWithin, told_of_sending, unsent_of}
+use Rattle.fed_hub.specs.Faults.{UnsentIsOf, told_of_sending, unsent_of}
 use Rattle.fed_hub_told.specs.declared.told_event.ToldEvent.{ToldEvent}
 use Rattle.fed_hub_told.specs.declared.told_edu.ToldEdu.{ToldEdu}
 use Rattle.fed_hub_told.specs.Told.{ToldState, with_event, with_edu}
@@ -91,13 +93,13 @@ is_sent signer draft servers own room ready stored client after p dests old new 
     )
 
 -- what is refused by the journal, or finds no room in a wire
-pub not_sent : (signer : Signer) (wires : ℕ) (draft same : DraftFields) (room stored : KeptState) (ready : RoomState) (share after : ClientShare) (client told : ToldState) (p : PreparedEvent) (dests : List ℕ) (old new : SendingState) (fault : EnterFault)
-    → IsMadeOf signer draft room p → ready ≡ room_of room.room → IsToldNothing client told → same ≡ draft → FullIsWithin wires fault
+pub not_sent : (signer : Signer) (wires : List (WireId Parcel)) (draft same : DraftFields) (room stored : KeptState) (ready : RoomState) (share after : ClientShare) (client told : ToldState) (p : PreparedEvent) (dests : List ℕ) (old new : SendingState) (fault : EnterFault)
+    → IsMadeOf signer draft room p → ready ≡ room_of room.room → IsToldNothing client told → same ≡ draft → FullIsOf wires fault
     → EventIsOffered p dests ready old share (Err fault) (room_of stored.room) new after → IsSentIn signer wires draft room client (Err (unsent_of fault same)) stored told
-not_sent signer wires draft same room stored ready share after client told p dests old new enter.Memory made is nothing equal within offered = (own_user signer (room_of room.room) draft p made, (offered.1 ∙ is, nothing))
-not_sent signer wires draft same room stored ready share after client told p dests old new enter.ShutDown made is nothing equal within offered = ((p, made), (offered.1 ∙ is, nothing))
-not_sent signer wires draft same room stored ready share after client told p dests old new enter.Limit made is nothing equal within offered = ((p, made), (offered.1 ∙ is, nothing))
-not_sent signer wires draft same room stored ready share after client told p dests old new (enter.Full d) made is nothing equal within offered = ((p, made), within, equal, (offered.2 ∙ is, nothing))
+not_sent signer wires draft same room stored ready share after client told p dests old new enter.Memory made is nothing equal of offered = (own_user signer (room_of room.room) draft p made, (offered.1 ∙ is, nothing))
+not_sent signer wires draft same room stored ready share after client told p dests old new enter.ShutDown made is nothing equal of offered = ((p, made), (offered.1 ∙ is, nothing))
+not_sent signer wires draft same room stored ready share after client told p dests old new enter.Limit made is nothing equal of offered = ((p, made), (offered.1 ∙ is, nothing))
+not_sent signer wires draft same room stored ready share after client told p dests old new (enter.Full full) made is nothing equal of offered = ((p, made), of, equal, (offered.2 ∙ is, nothing))
 
 -- ---- what a client was told, and its share
 
@@ -170,29 +172,29 @@ refused_so hub signer draft room client after send.ShutDown has named is nothing
 refused_so hub signer draft room client after send.Limit has named is nothing = (of_hub hub signer draft has named (own_user signer (room_of room.room) draft is.0 is.1), nothing)
 
 -- Of the last of several tries, with an equal draft, behind which the client was told of nothing.
-pub sent_so : (hub : HubShape) (signer : Signer) (wires : ℕ) (draft one : DraftFields) (room stored : KeptState) (client between after : ToldState) (number : Sent) → has_room hub.rooms draft.room ≡ true → signer.name ≡ hub.name
+pub sent_so : (hub : HubShape) (signer : Signer) (wires : List (WireId Parcel)) (draft one : DraftFields) (room stored : KeptState) (client between after : ToldState) (number : Sent) → has_room hub.rooms draft.room ≡ true → signer.name ≡ hub.name
     → one ≡ draft → IsToldNothing client between → IsSentIn signer wires one room between (Ok number) stored after → IsSent hub draft client (Ok number) after
 sent_so hub signer wires draft one room stored client between after number has named same nothing is =
     let by : IsSentIn signer wires draft room between (Ok number) stored after = subst (λ d. IsSentIn signer wires d room between (Ok number) stored after) same is in
     (of_hub hub signer draft has named (own_user signer (room_of room.room) draft by.0 by.1), told_then (told_of draft number) client between after nothing by.4)
 
-pub within_so : (signer : Signer) (wires : ℕ) (draft : DraftFields) (room stored : KeptState) (client after : ToldState) (unsent : Unsent) → IsSentIn signer wires draft room client (Err unsent) stored after → IsWithin wires unsent
-within_so signer wires draft room stored client after (Refused fault) is = tt
-within_so signer wires draft room stored client after (Full dest same) is = is.1
+pub full_so : (signer : Signer) (wires : List (WireId Parcel)) (draft : DraftFields) (room stored : KeptState) (client after : ToldState) (unsent : Unsent) → IsSentIn signer wires draft room client (Err unsent) stored after → UnsentIsOf wires unsent
+full_so signer wires draft room stored client after (Refused fault) is = tt
+full_so signer wires draft room stored client after (Full full same) is = is.1
 
-pub refused_then : (hub : HubShape) (signer : Signer) (wires : ℕ) (draft one : DraftFields) (room stored : KeptState) (client between after : ToldState) (unsent : Unsent) (fault : SendFault) → has_room hub.rooms draft.room ≡ true
+pub refused_then : (hub : HubShape) (signer : Signer) (wires : List (WireId Parcel)) (draft one : DraftFields) (room stored : KeptState) (client between after : ToldState) (unsent : Unsent) (fault : SendFault) → has_room hub.rooms draft.room ≡ true
     → signer.name ≡ hub.name → one ≡ draft → IsToldNothing client between → told_of_sending unsent ≡ Err fault → IsSentIn signer wires one room between (Err unsent) stored after → IsSent hub draft client (Err fault) after
-refused_then hub signer wires draft one room stored client between after (Full dest same) fault has named equal nothing why is = absurd (cc)
+refused_then hub signer wires draft one room stored client between after (Full full same) fault has named equal nothing why is = absurd (cc)
 refused_then hub signer wires draft one room stored client between after (Refused first) fault has named equal nothing why is =
     let same : first ≡ fault = cc in
     let by : IsSentIn signer wires draft room between (Err (Refused fault)) stored after =
     subst (λ (x : DraftFields × SendFault). IsSentIn signer wires x.0 room between (Err (Refused x.1)) stored after) (λ i. (equal i, same i)) is in
     refused_so hub signer draft room client after fault has named by.0 (told_nothing_more client between after nothing by.1.1)
 
-pub again : (signer : Signer) (wires : ℕ) (draft one next : DraftFields) (room stored : KeptState) (client between after : ToldState) (unsent : Unsent) → one ≡ draft → IsToldNothing client between → told_of_sending unsent ≡ Ok next
+pub again : (signer : Signer) (wires : List (WireId Parcel)) (draft one next : DraftFields) (room stored : KeptState) (client between after : ToldState) (unsent : Unsent) → one ≡ draft → IsToldNothing client between → told_of_sending unsent ≡ Ok next
     → IsSentIn signer wires one room between (Err unsent) stored after → (next ≡ draft) × IsToldNothing client after
 again signer wires draft one next room stored client between after (Refused fault) equal nothing why is = absurd (cc)
-again signer wires draft one next room stored client between after (Full dest same) equal nothing why is =
+again signer wires draft one next room stored client between after (Full full same) equal nothing why is =
     let back : same ≡ next = cc in
     (sym back ∙ is.2 ∙ equal, told_nothing_more client between after nothing is.3.1)
 

@@ -7,7 +7,7 @@ use Rattle.std.proofs.Crossing as crossing
 use Rattle.std.proofs.MapsCrossing as maps
 use Rattle.std.proofs.vec.Vec.TheSendSync as vec
 use Rattle.std.proofs.sync.Mutex.TheSendSync as mutex
-use Rattle.serde_json.proofs.value.Value.TheLaws.TheKnot
+use Rattle.fed_json.proofs.tree.Tree.TheLaws.TheKnot
 use Rattle.fed_event.specs.contracts.checked.Checked as checked
 use Rattle.fed_wires.specs.contracts.ends.SendEnd as sender
 use Rattle.fed_wires.specs.contracts.ends.SendPass as pass

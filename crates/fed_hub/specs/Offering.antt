@@ -1,5 +1,5 @@
 -- What a hub tells of what clients offer, and what their tokens are then.
-use Rattle.std.specs.Prelude.{◌≡◌, ◌<◌, ℕ, List, true, false, None, Some, Result, Ok, Err}
+use Rattle.std.specs.Prelude.{◌≡◌, ℕ, List, true, false, None, Some, Result, Ok, Err}
 use Rattle.serde_json.specs.Data.{Data}
 use Rattle.fed_event.specs.EventId.{event_id_of}
 use Rattle.fed_room_contract.specs.declared.refusal.Refusal.TheVariants as refusal
@@ -9,7 +9,10 @@ use Rattle.fed_room_contract.specs.Room.{committed}
 use Rattle.fed_room.specs.Room.{room_of, room_rules}
 use Rattle.fed_journal.specs.declared.edu.EduFault.TheVariants as faulty
 use Rattle.fed_journal.specs.Edu.{is_edu, edu_fault_of}
+use Rattle.fed_journal.specs.declared.parcel.Parcel.{Parcel}
+use Rattle.fed_wires.specs.WireId.{WireId}
 use Rattle.fed_hub_state.specs.KeptRoom.{KeptState}
+use Rattle.fed_hub_state.specs.WireRoom.{IsFullOf}
 use Rattle.fed_hub_told.specs.declared.told_event.ToldEvent.{ToldEvent}
 use Rattle.fed_hub_told.specs.Told.{ToldState}
 use Rattle.fed_hub.specs.ClientToken.{IsToldNothing, IsToldOf, IsToldOfEdu}
@@ -60,15 +63,15 @@ IsRefusedIn signer draft room send.Limit = (p : PreparedEvent) × IsMadeOf signe
 IsRefusedIn signer draft room send.Memory = is_own_user signer.name draft.sender ≡ true
 IsRefusedIn signer draft room send.UnknownRoom = ⊥
 
--- Of a draft in its room: the event that the room makes of it is stored there, and its id is told; or why it is not; or it is made, one of so many
--- wires has no room, and the same draft comes back.
-abbrev pub IsSentIn : Signer → ℕ → DraftFields → KeptState → ToldState → Result Sent Unsent → KeptState → ToldState → Type 0
+-- Of a draft in its room: the event that the room makes of it is stored there, and its id is told; or why it is not; or it is made, one of the
+-- wires was shown to have no room, and the same draft comes back.
+abbrev pub IsSentIn : Signer → List (WireId Parcel) → DraftFields → KeptState → ToldState → Result Sent Unsent → KeptState → ToldState → Type 0
 IsSentIn signer wires draft room client (Ok sent) stored after =
     (p : PreparedEvent) × IsMadeOf signer draft room p × (sent.event_id ≡ event_id_of p.event.event)
     × (room_of stored.room ≡ committed (room_of room.room) p.event) × IsToldOf (told_of draft sent) client after
 IsSentIn signer wires draft room client (Err (Refused fault)) stored after = IsRefusedIn signer draft room fault × Stays room client stored after
-IsSentIn signer wires draft room client (Err (Full dest same)) stored after =
-    ((p : PreparedEvent) × IsMadeOf signer draft room p) × (dest < wires) × (same ≡ draft) × Stays room client stored after
+IsSentIn signer wires draft room client (Err (Full full same)) stored after =
+    ((p : PreparedEvent) × IsMadeOf signer draft room p) × IsFullOf wires full × (same ≡ draft) × Stays room client stored after
 
 -- of an ephemeral data unit, for these destinations
 abbrev pub IsEduOffered : Data → List ℕ → ToldState → Result ℕ EduFault → ToldState → Type 0

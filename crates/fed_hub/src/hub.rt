@@ -3,6 +3,7 @@ ghost use Rattle.std.specs.Prelude.{◌≡◌, ◌≢◌, ◌<◌, ◌≤◌, Al
 ghost use Rattle.fed_dest.specs.List.{place_of};
 ghost use Rattle.fed_dest.specs.ServerSet.{is_among};
 ghost use Rattle.fed_wires.specs.Seat.{with_load};
+ghost use Rattle.fed_hub_state.specs.WireRoom.{IsFullOf};
 ghost use Rattle.fed_hub.specs.Setup.{has_room};
 
 use crate::reception::Reception;
@@ -11,7 +12,7 @@ use crate::tokens::Seat;
 use fed_dest::{List, ServerIndex, ServerSet};
 use fed_event::Keys;
 use fed_hub_serving::{KeptInbox, ServingNaming};
-use fed_hub_state::{KeptRoom, Naming, SeatedOutbox, SendingJournal};
+use fed_hub_state::{FullWire, KeptRoom, Naming, SeatedOutbox, SendingJournal};
 use fed_replies::PackedStore;
 use fed_wires::{Board, Credits};
 use std::marker::Model;
@@ -55,11 +56,11 @@ impl<N: Naming + ServingNaming, K: Keys + Drop> Model for Hub<N, K> {
 }
 
 impl<N: Naming + ServingNaming, K: Keys + Drop> Hub<N, K> {
-    /// Waits until there may be room in the wire to a destination, and lays in the credit that came back. No lock is held while it waits.
-    pub(crate) fn wait_for_room<R: Wait>(&self, rt: &R, dest: ServerIndex)
-        requires { dest < length N.wires }
+    /// Waits until there may be room in a wire that had none, and lays in the credit that came back. No lock is held while it waits.
+    pub(crate) fn wait_for_room<R: Wait>(&self, rt: &R, full: FullWire)
+        requires { IsFullOf N.wires full }
     {
-        if let Some(credit) = self.credits.wait(rt, dest.place()) {
+        if let Some(credit) = self.credits.wait(rt, full.dest.place()) {
             self.journal.lock(rt).give(credit);
         }
     }

@@ -3,9 +3,9 @@ ghost use Rattle.std.specs.Prelude.{◌≡◌, ◌≢◌, ◌<◌, false, length
 ghost use Rattle.fed_dest.specs.ServerSet.{is_among};
 ghost use Rattle.fed_room.specs.Room.{room_of};
 ghost use Rattle.fed_room_contract.specs.Prepared.{signer_of};
-ghost use Rattle.fed_hub_state.specs.CloseFault.{CloseFullIsWithin};
-ghost use Rattle.fed_hub_state.specs.EnterFault.{FullIsWithin};
-ghost use Rattle.fed_hub.specs.Faults.{IsWithin, send_fault_of, told_of_closing, told_of_offering, told_of_sending, unsent_of};
+ghost use Rattle.fed_hub_state.specs.CloseFault.{CloseFullIsOf};
+ghost use Rattle.fed_hub_state.specs.EnterFault.{FullIsOf};
+ghost use Rattle.fed_hub.specs.Faults.{UnsentIsOf, send_fault_of, told_of_closing, told_of_offering, told_of_sending, unsent_of};
 ghost use Rattle.fed_hub.specs.Offering.{IsSent, IsSentIn, IsEduOffered};
 ghost use Rattle.fed_hub.specs.Ready.{IsReady};
 ghost use Rattle.fed_hub.specs.declared.faults.SendFault.TheVariants.{Memory};
@@ -19,7 +19,7 @@ use crate::was_shut::shut_down;
 use fed_dest::{ServerIndex, ServerSet, destinations};
 use fed_event::{EventId, Keys};
 use fed_hub_serving::ServingNaming;
-use fed_hub_state::{CloseFault as Unclosed, EnterFault, KeptRoom, Naming, sections};
+use fed_hub_state::{CloseFault as Unclosed, EnterFault, FullWire, KeptRoom, Naming, sections};
 use fed_hub_told::{Told, ToldEdu, ToldEvent};
 use fed_journal::{JournalFault as CloseFault, edu_fault};
 use fed_json::{Json, NoMemory};
@@ -34,11 +34,11 @@ pub struct Sent {
     pub event_id: EventId,
 }
 
-// Why an event is not sent: it is refused, or the wire to a destination has no room, and it may be tried again with this draft.
+// Why an event is not sent: it is refused, or the wire to a destination had no room, and it may be tried again with this draft.
 #[derive(Drop)]
 enum Unsent {
     Refused(SendFault),
-    Full(ServerIndex, Draft),
+    Full(FullWire, Draft),
 }
 
 impl From<NoMemory> for Unsent {
@@ -66,7 +66,7 @@ impl Unsent {
             EnterFault::Memory => Unsent::Refused(SendFault::Memory),
             EnterFault::ShutDown => Unsent::Refused(SendFault::ShutDown),
             EnterFault::Limit => Unsent::Refused(SendFault::Limit),
-            EnterFault::Full(dest) => Unsent::Full(dest, draft),
+            EnterFault::Full(full) => Unsent::Full(full, draft),
         }
     }
 }
@@ -113,13 +113,13 @@ impl<N: Naming + ServingNaming, K: Keys + Drop> Hub<N, K> {
 
     // Waits for room where a wire is full, and gives the draft back; or tells why it is refused.
     fn wait_to_send<R: Wait>(&self, rt: &R, unsent: Unsent) -> Result<Draft, SendFault>
-        requires { IsWithin (length N.wires) unsent }
+        requires { UnsentIsOf N.wires unsent }
         ensures { result ≡ told_of_sending unsent }
     {
         match unsent {
             Unsent::Refused(fault) => Err(fault),
-            Unsent::Full(dest, draft) => {
-                self.wait_for_room(rt, dest);
+            Unsent::Full(full, draft) => {
+                self.wait_for_room(rt, full);
                 Ok(draft)
             }
         }
@@ -136,7 +136,7 @@ impl<N: Naming + ServingNaming, K: Keys + Drop> Hub<N, K> {
         draft: Draft,
     ) -> Result<Sent, Unsent>
         requires name { K.own_name keys.now ≡ self.now.name }
-        ensures { IsSentIn (signer_of (K.own_name keys.now) (K.own_key keys.now) (K.own_signature keys.now) (K.checks keys.now)) (length N.wires) draft room.old client.old result room.new client.new }
+        ensures { IsSentIn (signer_of (K.own_name keys.now) (K.own_key keys.now) (K.own_signature keys.now) (K.checks keys.now)) N.wires draft room.old client.old result room.new client.new }
     {
         let copy = draft.copy(alloc);
         let prepared = room.prepare(alloc, draft, keys)?;
@@ -241,12 +241,12 @@ impl<N: Naming + ServingNaming, K: Keys + Drop> Hub<N, K> {
 
     // Waits for room where a wire is full, or tells another fault.
     fn wait_to_offer<R: Wait>(&self, rt: &R, fault: EnterFault) -> Result<(), EduFault>
-        requires { FullIsWithin (length N.wires) fault }
+        requires { FullIsOf N.wires fault }
         ensures { result ≡ told_of_offering fault }
     {
         match fault {
-            EnterFault::Full(dest) => {
-                self.wait_for_room(rt, dest);
+            EnterFault::Full(full) => {
+                self.wait_for_room(rt, full);
                 Ok(())
             }
             EnterFault::Memory => Err(EduFault::Memory),
@@ -277,12 +277,12 @@ impl<N: Naming + ServingNaming, K: Keys + Drop> Hub<N, K> {
 
     // Waits for room where a wire is full, or tells another fault.
     fn wait_to_close<R: Wait>(&self, rt: &R, fault: Unclosed) -> Result<(), CloseFault>
-        requires { CloseFullIsWithin (length N.wires) fault }
+        requires { CloseFullIsOf N.wires fault }
         ensures { result ≡ told_of_closing fault }
     {
         match fault {
-            Unclosed::Full(dest) => {
-                self.wait_for_room(rt, dest);
+            Unclosed::Full(full) => {
+                self.wait_for_room(rt, full);
                 Ok(())
             }
             Unclosed::Memory => Err(CloseFault::Memory),

@@ -20,7 +20,7 @@ impl<N: Naming + ServingNaming, K: Keys + Drop> Hub<N, K> {
     ///
     /// What it tells:
     ///
-    /// - `Answered`, the status of the reply, which was written whole
+    /// - `Answered`, the status of the reply, which was written whole, to a HEAD without its body
     /// - `ReadFault` where a read failed, and `EndedEarly` where the input ended, before a request was whole; nothing is written then
     /// - `WriteFault` where a write failed; a front of the reply was written, and a transaction that was taken stays taken
     pub fn serve_one<R: Read, W: Write, T: Wait>(

@@ -1,6 +1,6 @@
 // How a journal is shut down, and what shows that it was.
-ghost use Rattle.std.specs.Prelude.{◌≡◌, true, length, MatchResult};
-ghost use Rattle.fed_hub_state.specs.CloseFault.{CloseFullIsWithin};
+ghost use Rattle.std.specs.Prelude.{◌≡◌, true, MatchResult};
+ghost use Rattle.fed_hub_state.specs.CloseFault.{CloseFullIsOf};
 
 use fed_dest::ServerIndex;
 use fed_hub_state::{CloseFault, Naming, SendingJournal, sections};
@@ -20,7 +20,7 @@ pub(crate) fn shut_down<N: Naming, R: Wait>(
     own: ServerIndex,
 ) -> Result<WasShut<N>, CloseFault>
     requires { own ≡ N.own }
-    ensures { MatchResult result (λ _. journal.new.is_shut ≡ true) (λ fault. CloseFullIsWithin (length N.wires) fault) }
+    ensures { MatchResult result (λ _. journal.new.is_shut ≡ true) (λ fault. CloseFullIsOf N.wires fault) }
 {
     sections::shut_down(rt, journal, own)?;
     Ok(WasShut { of: PhantomData })

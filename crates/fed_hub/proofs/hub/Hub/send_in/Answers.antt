@@ -10,7 +10,7 @@ use Rattle.fed_hub.proofs.hub.Hub.send_in.Goals as goal
 pub returns-in-Err : goal.returns-in-Err
 returns-in-Err g c =
     let signer = signer_of (g.K.Keys.own_name c.args.keys.now) (g.K.Keys.own_key c.args.keys.now) (g.K.Keys.own_signature c.args.keys.now) (g.K.Keys.checks c.args.keys.now) in
-    let wires = length g.N.Naming.wires in
+    let wires = g.N.Naming.wires in
     let ready = room_of c.prepare.new.self.room in
     let p = c.in_ok-prepared.prepared in
     let fault = c.in-Err.fault in
@@ -24,7 +24,7 @@ returns-in-Err g c =
     let nothing = nothing_so c.args.client.now c.client.inside.told told c.client.view_is c.in_ok-outgoing.ensures.same.0 c.in_ok-outgoing.ensures.same.1 in
     subst (λ (u : Unsent). IsSentIn signer wires c.args.draft c.args.room.now c.args.client.now (Err u) c.offer-offered.new.room told) (sym c.of_entering.ensures)
     (not_sent signer wires c.args.draft r.draft c.args.room.now c.offer-offered.new.room ready share c.offer-offered.new.client c.args.client.now told p dests old c.offer-offered.new.journal fault (made_of p _ c.in_ok-prepared.ensures.told)
-    c.in_ok-prepared.ensures.stays.0 nothing (copied c.args.draft r.draft c.copy-copy.result c.copy-copy.ensures of.same_draft) c.in-Err.ensures.within offered)
+    c.in_ok-prepared.ensures.stays.0 nothing (copied c.args.draft r.draft c.copy-copy.result c.copy-copy.ensures of.same_draft) c.in-Err.ensures.full offered)
 
 pub returns-in-Ok : goal.returns-in-Ok
 returns-in-Ok g c =
