@@ -13,20 +13,22 @@ use Rattle.fed_sim.specs.declared.outcome.Outcome.{Outcome}
 use Rattle.fed_sim.specs.declared.outcome.Outcome.TheVariants as outcome
 use Rattle.fed_sim.specs.declared.setup.Setup.{Setup}
 use Rattle.fed_sim.specs.declared.step.Step.{Step}
-use Rattle.fed_sim.specs.Headline.{Headline, IsAnsweredOnce}
+use Rattle.fed_sim.specs.Headline.{TakesOnce, IsAnsweredOnce}
 use Rattle.fed_sim.specs.Packets as packets
 use Rattle.fed_sim.specs.Packets.{packet_at, with_packet, way_from, IsOn, IsPosted, IsTaken}
 use Rattle.fed_sim.specs.declared.way.Cut.{Cut}
 use Rattle.fed_sim.specs.Rounds.{Times, never, once_more, ForEach, for_none, for_one_more, CollectsOne, Cuts, IsBrought, IsExchanged, nothing, left_alone, brought, IsCalmWay, IsCalmPair, itself, apart, GivesOne, GivesAll, BringsFrom, GivesRooms, IsRound, AreRounds, due_at, risen_to, waited_until}
-use Rattle.fed_sim.specs.Running.{IsRun, ComesOfRun}
+use Rattle.fed_sim.specs.RoundsInPart.{TimesInPart, ForEachInPart, IsRefused, IsExchangedInPart, not_posted, not_taken, not_settled, IsCalmWayInPart, in_collecting, in_exchange, IsCalmPairInPart, GivesAllInPart, BringsFromInPart, GivesRoomsInPart, IsRoundInPart, in_bringing, in_giving, AreRoundsInPart}
+use Rattle.fed_sim.specs.Running.{ComesOfRun}
 use Rattle.fed_sim.specs.Server.{ServerState}
-use Rattle.fed_sim.specs.Steps.{Moves, Reached, no_step, one_more, collected, posted, taken, settled, given}
+use Rattle.fed_sim.specs.Steps.{Moves, Reached, ReachedInPart, no_step, one_more, before_it, in_it, collected, posted, taken, settled, given}
 use Rattle.fed_sim.specs.Steps as steps
 use Rattle.fed_sim.specs.Ways.{way_to, with_way, IsOnWay, cutting, with_outbox}
-use Rattle.fed_sim.specs.World.{PacketState, request, WorldState, with_server, at_moment, max_moment, AtServer, nowhere, somewhere}
+use Rattle.fed_sim.specs.World.{PacketState, request, WorldState, with_server, at_moment, max_moment, AtServer, nowhere, somewhere, AtServerInPart}
+use Rattle.fed_sim.specs.Applying.{IsAppliedInPart}
 use Rattle.fed_sim.proofs.Between.{set_same, way_there}
 use Rattle.fed_sim.proofs.Landing.{same_some, not_none}
-use Rattle.fed_sim.proofs.Reaching.{reached_then, rises}
+use Rattle.fed_sim.proofs.Reaching.{reached_then, in_part_then, as_it_was, rises}
 
 -- ---- they are made of steps
 
@@ -90,6 +92,53 @@ round_reach a b is = reached_then a is.brought b (each_reach BringsFrom from_rea
 
 pub rounds_reach : (rounds : ℕ) (a b : WorldState) → AreRounds rounds a b → Reached a b
 rounds_reach rounds a b is = times_reach IsRound round_reach a rounds b is
+
+-- ---- the same where memory runs out in one of them
+
+times_in_part : (Does Part : WorldState → WorldState → Type 0) → ((a b : WorldState) → Does a b → Reached a b) → ((a b : WorldState) → Part a b → ReachedInPart a b)
+    → (old : WorldState) (total : ℕ) (new : WorldState) → TimesInPart Does Part old total new → ReachedInPart old new
+times_in_part Does Part each part old total new is = in_part_then old is.between new (times_reach Does each old is.done is.between is.before) (part is.between new is.part)
+
+each_in_part : (Does Part : ℕ → WorldState → WorldState → Type 0) → ((k : ℕ) (a b : WorldState) → Does k a b → Reached a b) → ((k : ℕ) (a b : WorldState) → Part k a b → ReachedInPart a b)
+    → (old : WorldState) (total : ℕ) (new : WorldState) → ForEachInPart Does Part old total new → ReachedInPart old new
+each_in_part Does Part each part old total new is = in_part_then old is.between new (each_reach Does each old is.place is.between is.before) (part is.place is.between new is.part)
+
+refused_in_part : (a b : WorldState) → IsRefused a b → ReachedInPart a b
+refused_in_part a b same = as_it_was a a b no_step same
+
+exchange_in_part : (o d : ℕ) (a b : WorldState) → IsExchangedInPart o d a b → ReachedInPart a b
+exchange_in_part o d a b (not_posted due is within same) = as_it_was a (risen_to due a) b (wait_reach a due within) same
+exchange_in_part o d a b (not_taken due k is within sent) = before_it (one_more _ _ _ (wait_reach a due within) (posted o d sent))
+exchange_in_part o d a b (not_settled due k between j status is within sent arrived) =
+    before_it (one_more _ _ _ (one_more _ _ _ (wait_reach a due within) (posted o d sent)) (taken k arrived))
+
+way_in_part : (o d : ℕ) (a b : WorldState) → IsCalmWayInPart o d a b → ReachedInPart a b
+way_in_part o d a b (in_collecting is) = times_in_part (CollectsOne o d) IsRefused (collect_reach o d) refused_in_part a _ b is
+way_in_part o d a b (in_exchange all made collects cuts is) =
+    in_part_then a made b (reached_then a all made (times_reach (CollectsOne o d) (collect_reach o d) a _ all collects) (cut_reach o d all made cuts)) (exchange_in_part o d made b is)
+
+pair_in_part : (o d : ℕ) (a b : WorldState) → IsCalmPairInPart o d a b → ReachedInPart a b
+pair_in_part o d a b is = way_in_part o d a b is.way
+
+from_in_part : (o : ℕ) (a b : WorldState) → BringsFromInPart o a b → ReachedInPart a b
+from_in_part o a b is = each_in_part (IsCalmPair o) (IsCalmPairInPart o) (pair_reach o) (pair_in_part o) a _ b is
+
+give_in_part : (s place : ℕ) (a b : WorldState) → AtServerInPart s (IsAppliedInPart place) a b → ReachedInPart a b
+give_in_part s place a b is = in_it a s place no_step is
+
+gives_in_part : (s place : ℕ) (a b : WorldState) → GivesAllInPart s place a b → ReachedInPart a b
+gives_in_part s place a b is = times_in_part (GivesOne s place) (AtServerInPart s (IsAppliedInPart place)) (give_reach s place) (give_in_part s place) a _ b is
+
+rooms_in_part : (s : ℕ) (a b : WorldState) → GivesRoomsInPart s a b → ReachedInPart a b
+rooms_in_part s a b is = each_in_part (GivesAll s) (GivesAllInPart s) (gives_reach s) (gives_in_part s) a _ b is
+
+round_in_part : (a b : WorldState) → IsRoundInPart a b → ReachedInPart a b
+round_in_part a b (in_bringing is) = each_in_part BringsFrom BringsFromInPart from_reach from_in_part a _ b is
+round_in_part a b (in_giving all before is) =
+    in_part_then a all b (each_reach BringsFrom from_reach a _ all before) (each_in_part GivesRooms GivesRoomsInPart rooms_reach rooms_in_part all _ b is)
+
+pub rounds_in_part : (rounds : ℕ) (a b : WorldState) → AreRoundsInPart rounds a b → ReachedInPart a b
+rounds_in_part rounds a b is = times_in_part IsRound IsRoundInPart round_reach round_in_part a rounds b is
 
 -- ---- a round that finds nothing to do may be left out
 
@@ -190,11 +239,11 @@ is_posted w o d due told new is does other = by told new does other (waiting_at 
 
 -- ---- a request that was posted is answered
 
-module _ (delivers : (setup : Setup) (steps : List Step) (replies : List Outcome) (w : WorldState) → IsRun setup steps replies w → Headline setup steps replies w) where
+module _ (law : (w : WorldState) → ComesOfRun w → TakesOnce w) where
   once : (w : WorldState) → ComesOfRun w → (k server dest n : ℕ) (bytes : List ℕ) → packet_at w.packets k ≡ Some (request server dest n bytes) → (told : Outcome) (new : WorldState) → IsTaken k w told new
       → IsAnsweredOnce w server dest n bytes new
   once w comes k server dest n bytes packet told new takes =
-      (delivers comes.setup comes.steps comes.replies w comes.ran).takes comes.steps comes.replies w comes.ran w no_step k server dest n bytes packet told new takes
+      law w comes w no_step k server dest n bytes packet told new takes
 
   -- the world is another one then
   one_packet_more : (w : WorldState) (server : ServerState) (dest : ℕ) (p : PacketState) → w ≡ with_packet (with_server w dest server) p → ⊥
@@ -245,9 +294,6 @@ waited w at_ms reached new is says = by (nat_lt max_moment at_ms) refl is
     by : (b : Bool) → nat_lt max_moment at_ms ≡ b → ◌≡◌ {A = Bool × WorldState} (reached, new) (if b then (false, w) else (true, risen_to at_ms w)) → (at_ms ≤ max_moment) × (new ≡ risen_to at_ms w)
     by true late e = absurd (true≢false (sym says ∙ ap (λ pair. pair.0) e))
     by false early e = (grind (arith, early), ap (λ pair. pair.1) e)
-
-pub waited_reach : (w : WorldState) (at_ms : ℕ) (reached : Bool) (new : WorldState) → Waited w reached new at_ms → reached ≡ true → Reached w new
-waited_reach w at_ms reached new is says = let h = waited w at_ms reached new is says in subst (Reached w) (sym h.1) (wait_reach w at_ms h.0)
 
 -- ---- the place of a server, as a number
 

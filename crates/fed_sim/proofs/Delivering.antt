@@ -27,7 +27,6 @@ use Rattle.fed_sim.specs.Server.{ServerState}
 use Rattle.fed_sim.specs.Steps.{Reached, no_step}
 use Rattle.fed_sim.specs.Ways.{way_to, IsOnWay, cutting}
 use Rattle.fed_sim.specs.World.{WorldState, AtServer, max_moment}
-use Rattle.fed_sim.proofs.Beginning.{begins_sound}
 use Rattle.fed_sim.proofs.Between.{IsSound, way_there}
 use Rattle.fed_sim.proofs.CalmSteps.{times_reach, each_reach, collect_reach, cut_reach, exchange_reach, pair_reach, from_reach, give_reach, rooms_reach, round_reach, waiting_at}
 use Rattle.fed_sim.proofs.CalmWays.{Next, PairAt, pair_at, none_failed_within, settles, left, left_edus, IsAfter, after_round, times_now, times_by}
@@ -35,7 +34,7 @@ use Rattle.fed_sim.proofs.Delivered.{all_delivered}
 use Rattle.fed_sim.proofs.Dues.{hour, AllBy, cuts_by, gives_by, on_way_by, success_by, all_soon, at_server_now}
 use Rattle.fed_sim.proofs.Landing.{same_some}
 use Rattle.fed_sim.proofs.Reaching.{reached_then}
-use Rattle.fed_sim.proofs.Runs.{run_sound, reached_sound}
+use Rattle.fed_sim.proofs.Runs.{reached_sound, comes_sound}
 use Rattle.fed_sim.proofs.Views.{Seen, seen, seen_in, seen_elsewhere, seen_given}
 use Rattle.fed_sim.proofs.WayMoves.{Laws}
 
@@ -350,7 +349,7 @@ module _ (laws : Laws) (next : Next) (rounds : ℕ) (old new : WorldState) (come
     (before origin dest : ServerState) (earlier way : Way) (at : slice_get old.servers o ≡ Some before) (leads : way_to before d ≡ Some earlier) (enough : rounds_for before d earlier ≤ rounds)
     (now : slice_get new.servers o ≡ Some origin) (to : slice_get new.servers d ≡ Some dest) (leads_now : way_to origin d ≡ Some way) where
   sound : IsSound old
-  sound = run_sound laws comes.ran.begin comes.steps comes.replies old comes.ran.ran (begins_sound comes.setup comes.ran.begin comes.ran.begins)
+  sound = comes_sound laws old comes
 
   apart_is : d ≢ o
   apart_is same = (way_there before d earlier leads).apart (same ∙ sym (sound.servers o before at).own)

@@ -18,22 +18,22 @@ use Rattle.fed_sim.specs.declared.outcome.Outcome.TheVariants as outcome
 use Rattle.fed_sim.specs.declared.setup.Setup.{Setup}
 use Rattle.fed_sim.specs.declared.step.Step.{Step}
 use Rattle.fed_sim.specs.declared.step.Step.TheVariants.{Offer, OfferEdu, Close, Collect, Cut, Failed, Post, Take, Settle, Apply, Tick, Show, Calm}
-use Rattle.fed_sim.specs.Arriving.{IsArrived, no_room, nothing, arrived, IsArrivedInPart, same, in_part, IsGivenTo, unknown_room, known_room, IsGivenInPart}
+use Rattle.fed_sim.specs.Applying.{IsAppliedAt, no_room, nothing, arrived, IsAppliedInPart, same, in_part, IsGivenTo, unknown_room, known_room, IsGivenInPart}
 use Rattle.fed_sim.specs.Offering.{IsOffered, IsOfferedAt, in_room, IsEduOffered, for_others, IsClosedFor}
 use Rattle.fed_sim.specs.Offering as offering
 use Rattle.fed_sim.specs.Packets as packets
 use Rattle.fed_sim.specs.Packets.{IsPosted, IsTaken, IsSettled}
-use Rattle.fed_sim.specs.Running.{Begins, IsBeginning, ComesOfRun}
+use Rattle.fed_sim.specs.Running.{Begins, IsBeginning, ComesOfRun, begins_run, by_step, within_round}
 use Rattle.fed_sim.specs.Server.{ServerState}
 use Rattle.fed_sim.specs.Steps as steps
-use Rattle.fed_sim.specs.Steps.{Moves, posted, settled, given, risen, Reached, no_step, one_more, ReachedInPart, before_it, in_it, Does, Leaves, Makes, made, refused, Ran, begun, next}
-use Rattle.fed_sim.specs.Taking.{IsReceived}
+use Rattle.fed_sim.specs.Steps.{Moves, posted, settled, given, risen, Reached, no_step, one_more, ReachedInPart, before_it, in_it, Does, Leaves, Makes, made, refused}
+use Rattle.fed_sim.specs.Taking.{IsTakeAt}
 use Rattle.fed_sim.specs.Way.{new_way}
 use Rattle.fed_sim.specs.Ways.{way_to, with_way, ways_beyond, IsOnWay, collecting, cutting, failing, settling}
 use Rattle.fed_sim.specs.World.{WorldState, with_server, at_moment, max_moment, ticked, AtServer, nowhere, somewhere, AtServerInPart}
 use Rattle.fed_sim.proofs.Between.{set_or_other, way_there}
 use Rattle.fed_sim.proofs.Landing.{same_some, not_none}
-use Rattle.fed_sim.proofs.CalmSteps.{rounds_reach}
+use Rattle.fed_sim.proofs.CalmSteps.{rounds_reach, rounds_in_part}
 
 -- ---- one way
 
@@ -143,12 +143,12 @@ close_by : (bound d : ℕ) (before : ServerState) (told : Outcome) (after : Serv
 close_by bound d before _ _ (offering.no_way none) are = are
 close_by bound d before _ _ (offering.on_way way told entries there does) are = beyond_by bound 0 before.journal entries before.ways are
 
-arrived_by : (bound place : ℕ) (before : ServerState) (told : Outcome) (after : ServerState) → IsArrived place before told after → Keeps bound before after
+arrived_by : (bound place : ℕ) (before : ServerState) (told : Outcome) (after : ServerState) → IsAppliedAt place before told after → Keeps bound before after
 arrived_by bound place before _ _ (no_room none) are = are
 arrived_by bound place before _ _ (nothing none) are = are
 arrived_by bound place before _ _ (arrived room later_room event later told is applied) are = are
 
-part_by : (bound place : ℕ) (before after : ServerState) → IsArrivedInPart place before after → Keeps bound before after
+part_by : (bound place : ℕ) (before after : ServerState) → IsAppliedInPart place before after → Keeps bound before after
 part_by bound place before _ same are = are
 part_by bound place before _ (in_part room later_room event later is stopped) are = are
 
@@ -175,7 +175,7 @@ way_by bound d step each before told after is = by (way_to before d) refl is
     by None leads e are = same_ways bound before after (ap (λ pair. pair.1.ways) e) are
     by (Some way) leads e are = subst (AreBy bound) (sym (ap (λ pair. pair.1) e)) (on way leads are)
 
-received_by : (bound : ℕ) (known : List (List ℕ)) (request : _) (before : ServerState) (reply : _) (after : ServerState) → IsReceived known request before reply after → Keeps bound before after
+received_by : (bound : ℕ) (known : List (List ℕ)) (request : _) (before : ServerState) (reply : _) (after : ServerState) → IsTakeAt known request before reply after → Keeps bound before after
 received_by bound known request before reply after is = same_ways bound before after (ap (λ (s : ServerState). s.ways) is.others)
 
 -- ---- the world
@@ -230,7 +230,7 @@ module _ (bound : ℕ) where
   settled_by k w told new early (packets.settled server dest n reply status packet read does) h =
       on_way_by server dest (settling n status w.now) w told new (λ way is. answered_by bound w.now n status way.outbox early is) does h
 
-  pub gives_by : (server place : ℕ) (w : WorldState) (told : Outcome) (new : WorldState) → AtServer server (IsArrived place) w told new → AllBy bound w → AllBy bound new
+  pub gives_by : (server place : ℕ) (w : WorldState) (told : Outcome) (new : WorldState) → AtServer server (IsAppliedAt place) w told new → AllBy bound w → AllBy bound new
   gives_by server place w told new does h = at_server server _ w told new (arrived_by bound place) does h
 
 -- ---- an hour later at most
@@ -344,15 +344,11 @@ left (Apply server room) w new is h =
     part_soon server _ w new (λ before after (part : IsGivenInPart w.known (string_bytes room) before after). part_by (w.now + hour) part.place before after part.in_part) is h
 left (Tick ms) w new is h = absurd is
 left (Show server origin) w new is h = absurd is
-left (Calm rounds) w new is h = reached_in_part w new is h
+left (Calm rounds) w new is h = reached_in_part w new (rounds_in_part rounds w new is) h
 
-ran_soon : (begin : WorldState) (steps : List Step) (replies : List Outcome) (new : WorldState) → Ran begin steps replies new → AllSoon begin → AllSoon new
-ran_soon begin _ _ _ begun h = h
-ran_soon begin _ _ _ (next steps replies old new step told before makes) h = by makes (ran_soon begin steps replies old before h)
-  where
-    by : Makes step old told new → AllSoon old → AllSoon new
-    by (made does) there = done step old told new does there
-    by (refused says leaves) there = left step old new leaves there
+makes_soon : (step : Step) (w : WorldState) (told : Outcome) (new : WorldState) → Makes step w told new → AllSoon w → AllSoon new
+makes_soon step w told new (made does) h = done step w told new does h
+makes_soon step w told new (refused says leaves) h = left step w new leaves h
 
 -- none is due at the beginning
 new_ways_by : (bound : ℕ) (dests : List ℕ) (d : ℕ) (way : Way) → slice_get (map new_way dests) d ≡ Some way → IsBy bound way.outbox
@@ -367,4 +363,6 @@ begins_soon setup w b = record { each = λ k s e. by k s (b.servers k s e) }
     by k s is d way at = new_ways_by (w.now + hour) (range_with_len 0 (length w.names)) d way (ap (λ (t : ServerState). slice_get t.ways d) (sym is.new.is) ∙ at)
 
 pub all_soon : (w : WorldState) → ComesOfRun w → AllSoon w
-all_soon w comes = ran_soon comes.ran.begin comes.steps comes.replies w comes.ran.ran (begins_soon comes.setup comes.ran.begin comes.ran.begins)
+all_soon _ (begins_run setup w begins) = begins_soon setup w begins
+all_soon _ (by_step step old told new before makes) = makes_soon step old told new makes (all_soon old before)
+all_soon _ (within_round old new before reached) = reached_in_part old new reached (all_soon old before)

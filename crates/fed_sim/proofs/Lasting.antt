@@ -18,7 +18,7 @@ use Rattle.fed_inbox.specs.Inbox.{log_at}
 use Rattle.fed_room_contract.specs.Draft.{DraftFields}
 use Rattle.fed_sim.specs.declared.outcome.Outcome.{Outcome}
 use Rattle.fed_sim.specs.declared.outcome.Outcome.TheVariants as outcome
-use Rattle.fed_sim.specs.Arriving.{IsArrived, no_room, nothing, arrived, IsArrivedInPart, same, in_part, IsGivenTo, unknown_room, known_room}
+use Rattle.fed_sim.specs.Applying.{IsAppliedAt, no_room, nothing, arrived, IsAppliedInPart, same, in_part, IsGivenTo, unknown_room, known_room}
 use Rattle.fed_journal.specs.Edu.{is_edu, max_edu, max_edu_depth, edu_fault_of}
 use Rattle.fed_sim.specs.Offering.{IsOfferedAt, IsOffered, IsEduOffered, IsClosedFor}
 use Rattle.fed_sim.specs.Offering as offering
@@ -135,13 +135,13 @@ module _ (laws : Laws) (w : WorldState) (p : ℕ) (before : ServerState) (at : s
 -- ---- what a room is given
 
 module _ (w : WorldState) (p : ℕ) (before : ServerState) (at : slice_get w.servers p ≡ Some before) (h : IsSound w) where
-  pub arrived_so : (place : ℕ) (told : Outcome) (after : ServerState) → IsArrived place before told after → IsSound (with_server w p after)
+  pub arrived_so : (place : ℕ) (told : Outcome) (after : ServerState) → IsAppliedAt place before told after → IsSound (with_server w p after)
   arrived_so place _ _ (no_room none) = put_back w p before at h
   arrived_so place _ _ (nothing none) = put_back w p before at h
   arrived_so place _ _ (arrived room after event later told is applied) =
       changed_elsewhere w p before at h _ (record { own = refl; name = refl; inbox = refl; ways = refl }) refl refl
 
-  pub arrived_in_part : (place : ℕ) (after : ServerState) → IsArrivedInPart place before after → IsSound (with_server w p after)
+  pub arrived_in_part : (place : ℕ) (after : ServerState) → IsAppliedInPart place before after → IsSound (with_server w p after)
   arrived_in_part place _ same = put_back w p before at h
   arrived_in_part place _ (in_part room after event later is stopped) =
       changed_elsewhere w p before at h _ (record { own = refl; name = refl; inbox = refl; ways = refl }) refl refl

@@ -26,7 +26,7 @@ pub mod Taken
 pub mod Beginning
 pub mod Delivered
 pub mod Runs
-pub mod Starting
+pub mod Starts
 pub mod CalmSteps
 pub mod Dues
 pub mod Views

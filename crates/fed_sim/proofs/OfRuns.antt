@@ -2,12 +2,11 @@
 use Rattle.std.proofs.Common.{◌≡◌, ℕ, List, [], ◌∷◌, ◌++◌, Result, Ok, Err, IfOk, OnErr, refl, sym, ap, subst}
 use Rattle.std.proofs.Math.Logic.{∥∥₁_map}
 use Rattle.fed_sim.specs.declared.outcome.Outcome.{Outcome}
-use Rattle.fed_sim.specs.declared.outcome.Outcome.TheVariants as outcome
+use Rattle.fed_sim.specs.declared.setup.Setup.{Setup}
 use Rattle.fed_sim.specs.declared.step.Step.{Step}
-use Rattle.fed_sim.specs.declared.step.Step.TheVariants as step
-use Rattle.fed_sim.specs.Arriving.{IsArrivedInPart, IsGivenTo, unknown_room, known_room, IsGivenInPart}
-use Rattle.fed_sim.specs.Running.{ComesOfRun}
-use Rattle.fed_sim.specs.Steps.{Moves, given, Reached, no_step, one_more, before_it, in_it, Does, Makes, made, refused, next}
+use Rattle.fed_sim.specs.Applying.{IsAppliedInPart, IsGivenTo, unknown_room, known_room, IsGivenInPart}
+use Rattle.fed_sim.specs.Running.{Begins, ComesOfRun, IsRun, begins_run, by_step, within_round}
+use Rattle.fed_sim.specs.Steps.{Moves, given, Reached, no_step, one_more, before_it, in_it, ReachedInPart, Does, Makes, made, Ran, begun, next}
 use Rattle.fed_sim.specs.World.{WorldState, with_server, AtServer, nowhere, somewhere, AtServerInPart}
 use Rattle.fed_sim.specs.Server.{ServerState}
 use Rattle.fed_sim.proofs.Between.{set_same}
@@ -18,28 +17,23 @@ with_servers w states = record { names = w.names; known = w.known; epoch = w.epo
 abbrev pub Comes : WorldState → Type 0
 Comes w = ∥ ComesOfRun w ∥₁
 
-one_step_more : (step : Step) (old : WorldState) (told : Outcome) (new : WorldState) → Makes step old told new → ComesOfRun old → ComesOfRun new
-one_step_more step old told new makes c = record {
-  setup = c.setup;
-  steps = c.steps ++ step ∷ [];
-  replies = c.replies ++ told ∷ [];
-  ran = record { begin = c.ran.begin; begins = c.ran.begins; ran = next c.steps c.replies old new step told c.ran.ran makes };
-}
-
 pub comes_by : (step : Step) (old : WorldState) (told : Outcome) (new : WorldState) → Does step old told new → Comes old → Comes new
-comes_by step old told new does comes = ∥∥₁_map comes (one_step_more step old told new (made does))
+comes_by step old told new does comes = ∥∥₁_map comes (λ c. by_step step old told new c (made does))
 
 pub comes_same : (old new : WorldState) → new ≡ old → Comes old → Comes new
 comes_same old new same = subst Comes (sym same)
 
+comes_within : (old new : WorldState) → ReachedInPart old new → Comes old → Comes new
+comes_within old new reached comes = ∥∥₁_map comes (λ c. within_round old new c reached)
+
 pub comes_reached : (old new : WorldState) → Reached old new → Comes old → Comes new
-comes_reached old new reached comes = ∥∥₁_map comes (one_step_more (step.Calm 0) old outcome.NoMemory new (refused refl (before_it reached)))
+comes_reached old new reached comes = comes_within old new (before_it reached) comes
 
 pub comes_moved : (old : WorldState) (told : Outcome) (new : WorldState) → Moves old told new → Comes old → Comes new
 comes_moved old told new moves = comes_reached old new (one_more old new told no_step moves)
 
-pub comes_in_part : (old new : WorldState) (server place : ℕ) → AtServerInPart server (IsArrivedInPart place) old new → Comes old → Comes new
-comes_in_part old new server place is comes = ∥∥₁_map comes (one_step_more (step.Calm 0) old outcome.NoMemory new (refused refl (in_it old server place no_step is)))
+pub comes_in_part : (old new : WorldState) (server place : ℕ) → AtServerInPart server (IsAppliedInPart place) old new → Comes old → Comes new
+comes_in_part old new server place is comes = comes_within old new (in_it old server place no_step is) comes
 
 -- a room is given an event
 pub comes_given : (server : ℕ) (known : List (List ℕ)) (id : List ℕ) (old : WorldState) (told : Outcome) (new : WorldState) → AtServer server (IsGivenTo known id) old told new → Comes old → Comes new
@@ -58,3 +52,11 @@ comes_given_in_part server known id old new is =
 pub comes_either : {E : Type 0} (r : Result Outcome E) (old new : WorldState) (Did : Outcome → Type 0) → ((told : Outcome) → Did told → Comes old → Comes new) → IfOk r Did → OnErr r (new ≡ old) → Comes old → Comes new
 comes_either (Ok told) old new Did by did same = by told did
 comes_either (Err e) old new Did by did same = comes_same old new same
+
+-- the world after the steps of a run comes of one
+comes_of_ran : (setup : Setup) (begin : WorldState) → Begins setup begin → (steps : List Step) (replies : List Outcome) (w : WorldState) → Ran begin steps replies w → ComesOfRun w
+comes_of_ran setup begin begins _ _ _ begun = begins_run setup begin begins
+comes_of_ran setup begin begins _ _ _ (next steps replies old new step told before makes) = by_step step old told new (comes_of_ran setup begin begins steps replies old before) makes
+
+pub comes_of_run : (setup : Setup) (steps : List Step) (replies : List Outcome) (w : WorldState) → IsRun setup steps replies w → ComesOfRun w
+comes_of_run setup steps replies w is = comes_of_ran setup is.begin is.begins steps replies w is.ran

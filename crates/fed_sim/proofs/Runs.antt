@@ -4,7 +4,8 @@ use Rattle.std.specs.Prelude.{slice_get, string_bytes}
 use Rattle.fed_sim.specs.declared.outcome.Outcome.{Outcome}
 use Rattle.fed_sim.specs.declared.step.Step.{Step}
 use Rattle.fed_sim.specs.declared.step.Step.TheVariants.{Offer, OfferEdu, Close, Collect, Cut, Failed, Post, Take, Settle, Apply, Tick, Show, Calm}
-use Rattle.fed_sim.specs.Arriving.{IsGivenInPart}
+use Rattle.fed_sim.specs.Applying.{IsGivenInPart}
+use Rattle.fed_sim.specs.Running.{ComesOfRun, begins_run, by_step, within_round}
 use Rattle.fed_sim.specs.Server.{ServerState}
 use Rattle.fed_sim.specs.Steps.{Moves, collected, cut, posted, taken, settled, given, risen, Reached, no_step, one_more, ReachedInPart, before_it, in_it, Does, Leaves, Makes, made, refused, Ran, begun, next}
 use Rattle.fed_sim.specs.Ways.{IsOnWay, collecting, cutting, failing}
@@ -14,7 +15,8 @@ use Rattle.fed_sim.proofs.Between.{IsSound}
 use Rattle.fed_sim.proofs.Lasting.{offered, edu_offered, closed_for, arrived_so, arrived_in_part, given_to, on_its_way, ticked_so}
 use Rattle.fed_sim.proofs.Posting.{posted_lasts, settled_lasts}
 use Rattle.fed_sim.proofs.Taken.{taken_lasts}
-use Rattle.fed_sim.proofs.CalmSteps.{rounds_reach}
+use Rattle.fed_sim.proofs.CalmSteps.{rounds_reach, rounds_in_part}
+use Rattle.fed_sim.proofs.Beginning.{begins_sound}
 
 module _ (laws : Laws) where
   at_server : (place : ℕ) (DoesIt : ServerState → Outcome → ServerState → Type 0) (w : WorldState) (told : Outcome) (new : WorldState)
@@ -105,7 +107,7 @@ module _ (laws : Laws) where
   left (Apply server room) w new is h = given_in_part server (string_bytes room) w new is h
   left (Tick ms) w new is h = absurd is
   left (Show server origin) w new is h = absurd is
-  left (Calm rounds) w new is h = reached_in_part w new is h
+  left (Calm rounds) w new is h = reached_in_part w new (rounds_in_part rounds w new is) h
 
   pub makes_sound : (step : Step) (w : WorldState) (told : Outcome) (new : WorldState) → Makes step w told new → IsSound w → IsSound new
   makes_sound step w told new (made does) h = done step w told new does h
@@ -114,3 +116,8 @@ module _ (laws : Laws) where
   pub run_sound : (begin : WorldState) (steps : List Step) (replies : List Outcome) (new : WorldState) → Ran begin steps replies new → IsSound begin → IsSound new
   run_sound begin _ _ _ begun h = h
   run_sound begin _ _ _ (next steps replies old new step told before makes) h = makes_sound step old told new makes (run_sound begin steps replies old before h)
+
+  pub comes_sound : (w : WorldState) → ComesOfRun w → IsSound w
+  comes_sound _ (begins_run setup w begins) = begins_sound setup w begins
+  comes_sound _ (by_step step old told new before makes) = makes_sound step old told new makes (comes_sound old before)
+  comes_sound _ (within_round old new before reached) = reached_in_part old new reached (comes_sound old before)

@@ -20,23 +20,23 @@ use Rattle.fed_sim.specs.declared.setup.RoomSetup.{RoomSetup}
 use Rattle.fed_sim.specs.declared.setup.Setup.{Setup}
 use Rattle.fed_sim.specs.declared.step.Step.{Step}
 use Rattle.fed_sim.specs.declared.step.Step.TheVariants.{Offer, OfferEdu, Close, Collect, Cut, Failed, Post, Take, Settle, Apply, Tick, Show, Calm}
-use Rattle.fed_sim.specs.Arriving.{IsArrived, no_room, nothing, arrived, IsArrivedInPart, same, in_part, IsGivenTo, unknown_room, known_room, IsGivenInPart}
+use Rattle.fed_sim.specs.Applying.{IsAppliedAt, no_room, nothing, arrived, IsAppliedInPart, same, in_part, IsGivenTo, unknown_room, known_room, IsGivenInPart}
 use Rattle.fed_sim.specs.Hosted.{HostedState}
 use Rattle.fed_sim.specs.Offering.{IsOffered, IsOfferedAt, in_room, IsEduOffered, for_others, IsClosedFor}
 use Rattle.fed_sim.specs.Offering as offering
 use Rattle.fed_sim.specs.Packets as packets
 use Rattle.fed_sim.specs.Packets.{IsPosted, IsTaken, IsSettled}
-use Rattle.fed_sim.specs.Running.{Begins, IsBeginning, ComesOfRun}
+use Rattle.fed_sim.specs.Running.{Begins, IsBeginning, ComesOfRun, begins_run, by_step, within_round}
 use Rattle.fed_sim.specs.Server.{ServerState}
 use Rattle.fed_sim.specs.Shape.{IsShaped, HasShape}
-use Rattle.fed_sim.specs.Steps.{Moves, collected, cut, posted, taken, settled, given, risen, Reached, no_step, one_more, ReachedInPart, before_it, in_it, Does, Leaves, Makes, made, refused, Ran, begun, next}
-use Rattle.fed_sim.specs.Taking.{IsReceived}
+use Rattle.fed_sim.specs.Steps.{Moves, collected, cut, posted, taken, settled, given, risen, Reached, no_step, one_more, ReachedInPart, before_it, in_it, Does, Leaves, Makes, made, refused}
+use Rattle.fed_sim.specs.Taking.{IsTakeAt}
 use Rattle.fed_sim.specs.Way.{new_way}
 use Rattle.fed_sim.specs.Ways.{way_to, with_way, ways_beyond, IsOnWay}
 use Rattle.fed_sim.specs.World.{WorldState, with_server, at_moment, max_moment, ticked, AtServer, nowhere, somewhere, AtServerInPart}
 use Rattle.fed_sim.proofs.Between.{set_or_other}
 use Rattle.fed_sim.proofs.Fresh.{rooms_stay_known}
-use Rattle.fed_sim.proofs.CalmSteps.{rounds_reach}
+use Rattle.fed_sim.proofs.CalmSteps.{rounds_reach, rounds_in_part}
 
 -- ---- one server
 
@@ -71,12 +71,12 @@ close_keeps : (d : ℕ) (before : ServerState) (told : Outcome) (after : ServerS
 close_keeps d before _ _ (offering.no_way none) = itself before
 close_keeps d before _ _ (offering.on_way way told entries there does) = record { own = refl; ways = length-ways_beyond 0 before.journal entries before.ways; rooms = refl; inbox = refl }
 
-arrived_keeps : (place : ℕ) (before : ServerState) (told : Outcome) (after : ServerState) → IsArrived place before told after → Keeps before after
+arrived_keeps : (place : ℕ) (before : ServerState) (told : Outcome) (after : ServerState) → IsAppliedAt place before told after → Keeps before after
 arrived_keeps place before _ _ (no_room none) = itself before
 arrived_keeps place before _ _ (nothing none) = itself before
 arrived_keeps place before _ _ (arrived room now event later told is applied) = record { own = refl; ways = refl; rooms = length-set before.rooms place now; inbox = refl }
 
-part_keeps : (place : ℕ) (before after : ServerState) → IsArrivedInPart place before after → Keeps before after
+part_keeps : (place : ℕ) (before after : ServerState) → IsAppliedInPart place before after → Keeps before after
 part_keeps place before _ same = itself before
 part_keeps place before _ (in_part room now event later is stopped) = record { own = refl; ways = refl; rooms = length-set before.rooms place now; inbox = refl }
 
@@ -92,7 +92,7 @@ way_keeps d step before told after is = by (way_to before d) is
     by (Some way) e =
         subst (Keeps before) (sym (ap (λ pair. pair.1) e)) (record { own = refl; ways = length-set before.ways d (step way).1; rooms = refl; inbox = refl })
 
-received_keeps : (known : List (List ℕ)) (request : _) (before : ServerState) (reply : _) (after : ServerState) → IsReceived known request before reply after → Keeps before after
+received_keeps : (known : List (List ℕ)) (request : _) (before : ServerState) (reply : _) (after : ServerState) → IsTakeAt known request before reply after → Keeps before after
 received_keeps known request before reply after is = record {
   own = ap (λ (s : ServerState). s.own) is.others;
   ways = ap (λ (s : ServerState). length s.ways) is.others;
@@ -194,15 +194,11 @@ left (Settle packet) w new is h = subst HasShape (sym is) h
 left (Apply server room) w new is h = part_at server _ w new (λ before after (part : IsGivenInPart w.known (string_bytes room) before after). part_keeps part.place before after part.in_part) is h
 left (Tick ms) w new is h = absurd is
 left (Show server origin) w new is h = absurd is
-left (Calm rounds) w new is h = reached_in_part w new is h
+left (Calm rounds) w new is h = reached_in_part w new (rounds_in_part rounds w new is) h
 
-ran_shaped : (begin : WorldState) (steps : List Step) (replies : List Outcome) (new : WorldState) → Ran begin steps replies new → HasShape begin → HasShape new
-ran_shaped begin _ _ _ begun h = h
-ran_shaped begin _ _ _ (next steps replies old new step told before makes) h = by makes (ran_shaped begin steps replies old before h)
-  where
-    by : Makes step old told new → HasShape old → HasShape new
-    by (made does) there = done step old told new does there
-    by (refused says leaves) there = left step old new leaves there
+makes_shaped : (step : Step) (w : WorldState) (told : Outcome) (new : WorldState) → Makes step w told new → HasShape w → HasShape new
+makes_shaped step w told new (made does) h = done step w told new does h
+makes_shaped step w told new (refused says leaves) h = left step w new leaves h
 
 begins_shaped : (setup : Setup) (w : WorldState) → Begins setup w → HasShape w
 begins_shaped setup w b = record { count = b.count; servers = λ k s e. by k s (b.servers k s e) }
@@ -218,7 +214,9 @@ begins_shaped setup w b = record { count = b.count; servers = λ k s e. by k s (
         })
 
 pub has_shape : (w : WorldState) → ComesOfRun w → HasShape w
-has_shape w comes = ran_shaped comes.ran.begin comes.steps comes.replies w comes.ran.ran (begins_shaped comes.setup comes.ran.begin comes.ran.begins)
+has_shape _ (begins_run setup w begins) = begins_shaped setup w begins
+has_shape _ (by_step step old told new before makes) = makes_shaped step old told new makes (has_shape old before)
+has_shape _ (within_round old new before reached) = reached_in_part old new reached (has_shape old before)
 
 -- ---- of a world that comes of some run
 

@@ -7,7 +7,11 @@ use Rattle.std.proofs.lemmas.Slice.Eq.{bytes_eq-Decides}
 use Rattle.serde_json.specs.Data.{Data}
 use Rattle.fed_event.specs.declared.fault.PduFault.{PduFault}
 use Rattle.fed_event.specs.Checked.{CheckedEvent, checked_of}
+use Rattle.fed_event.specs.Fields.{room_id_of}
 use Rattle.fed_event.specs.Tests.{first_fault_of}
+use Rattle.fed_event.proofs.CheckedFields.{room_kept}
+use Rattle.fed_room.specs.Links.{links_of}
+use Rattle.fed_room.specs.Parts.{EventLinks, fields_of, with_state_key}
 use Rattle.fed_room_contract.specs.declared.graph.Stored.{Stored}
 use Rattle.fed_room_contract.specs.declared.input.Input.{Input}
 use Rattle.fed_room_contract.specs.declared.input.Input.TheVariants.{Receive, Advance, Commit}
@@ -123,6 +127,31 @@ made_is signer stored draft p made = of_own (is_own_user signer.name draft.sende
     of_own : (b : Bool) → (if b then if_sealed room_rules signer stored (sealed_by signer (room_rules.parts stored draft)) else Err NotOwnUser) ≡ Ok p
         → (room_rules.decide stored p.event ≡ Accepted) × (p.before ≡ room_rules.before stored p.event.event)
     of_own true e = of_fault (sealed_by signer (room_rules.parts stored draft)) (first_fault_of (sealed_by signer (room_rules.parts stored draft))) e
+    of_own false e = absurd (cc)
+
+-- it is one of the room that the draft names
+room_sealed : (signer : Signer) (links : EventLinks) (draft : DraftFields) (key : Option (List ℕ)) → room_id_of (sealed_by signer (with_state_key key (fields_of links draft))) ≡ draft.room
+room_sealed signer links draft None = refl
+room_sealed signer links draft (Some key) = refl
+
+pub made_for : (signer : Signer) (stored : List Stored) (draft : DraftFields) (p : PreparedEvent) → prepared_of room_rules signer stored draft ≡ Ok p → room_id_of p.event.event ≡ draft.room
+made_for signer stored draft p made = of_own (is_own_user signer.name draft.sender) made
+  where
+    of_verdict : (event : CheckedEvent) → room_id_of event.event ≡ draft.room → (verdict : Verdict) → if_accepted room_rules signer stored event verdict ≡ Ok p → room_id_of p.event.event ≡ draft.room
+    of_verdict event is Accepted e =
+        let same : record { event = event; before = room_rules.before stored event.event } ≡ p = cc in
+        subst (λ (q : PreparedEvent). room_id_of q.event.event ≡ draft.room) same is
+    of_verdict event is (Rejected rule) e = absurd (cc)
+    of_verdict event is (SoftFailed rule) e = absurd (cc)
+
+    of_fault : (value : Data) → room_id_of value ≡ draft.room → (fault : Option PduFault) → if_event room_rules signer stored value fault ≡ Ok p → room_id_of p.event.event ≡ draft.room
+    of_fault value is (Some fault) e = absurd (cc)
+    of_fault value is None e = of_verdict (checked_of signer.checks value) (room_kept signer.checks value ∙ is) (room_rules.decide stored (checked_of signer.checks value)) e
+
+    of_own : (b : Bool) → (if b then if_sealed room_rules signer stored (sealed_by signer (room_rules.parts stored draft)) else Err NotOwnUser) ≡ Ok p → room_id_of p.event.event ≡ draft.room
+    of_own true e =
+        of_fault (sealed_by signer (room_rules.parts stored draft)) (room_sealed signer (links_of stored draft) draft draft.state_key)
+        (first_fault_of (sealed_by signer (room_rules.parts stored draft))) e
     of_own false e = absurd (cc)
 
 last_stored : (xs : List Stored) (x : Stored) → is_stored (xs ++ x ∷ []) (id_of x) ≡ true

@@ -24,7 +24,7 @@ use Rattle.fed_exchange.specs.Messages.{IsRequestIn, HasNoRequest}
 use Rattle.fed_sim.specs.Packets.{packet_at, with_packet, IsTaken, no_request, no_text, no_receiver, taken}
 use Rattle.fed_sim.specs.Server.{ServerState}
 use Rattle.fed_inbox.specs.Queues.{queues_from}
-use Rattle.fed_sim.specs.Taking.{IsReceived}
+use Rattle.fed_sim.specs.Taking.{IsTakeAt}
 use Rattle.fed_sim.specs.Headline.{WasGiven, IsAllTaken, IsAnswered, IsAnsweredOnce}
 use Rattle.fed_sim.specs.Headline as answers
 use Rattle.fed_sim.specs.Ways.{way_to}
@@ -96,7 +96,7 @@ module _ (w : WorldState) (h : IsSound w) (k server dest n : ℕ) (bytes : List 
         (subst (λ b. IsRequestIn b (sent.sent os.name before.name w.epoch asks.t os_is.named ds_is.named asks.takable.limits asks.readable)) (sym asks.bytes_are)
         (sent.posted_is_read os.name before.name w.epoch asks.t os_is.named ds_is.named asks.takable.limits asks.readable))
 
-    module _ (r : RequestValue) (after : ServerState) (reply : Answer) (reads : IsRequestIn bytes r) (is : IsReceived w.known r before reply after) where
+    module _ (r : RequestValue) (after : ServerState) (reply : Answer) (reads : IsRequestIn bytes r) (is : IsTakeAt w.known r before reply after) where
       -- ---- what it came to
 
       request_is : r ≡ sent.sent os.name before.name w.epoch asks.t os_is.named ds_is.named asks.takable.limits asks.readable

@@ -10,7 +10,7 @@ use Rattle.fed_inbox.specs.Reply.{Answer}
 use Rattle.fed_exchange.specs.Messages.{IsStatusOf}
 use Rattle.fed_sim.specs.declared.outcome.Outcome.{Outcome}
 use Rattle.fed_sim.specs.declared.outcome.Outcome.TheVariants as outcome
-use Rattle.fed_sim.specs.Arriving.{IsArrived, no_room, nothing, arrived}
+use Rattle.fed_sim.specs.Applying.{IsAppliedAt, no_room, nothing, arrived}
 use Rattle.fed_sim.specs.Packets as packets
 use Rattle.fed_sim.specs.Packets.{packet_at, with_packet, IsPosted, IsTaken, IsSettled, request_for}
 use Rattle.fed_sim.specs.Server.{ServerState}
@@ -82,10 +82,10 @@ module _ (o d : ℕ) where
   pub seen_elsewhere : (a b : ℕ) (step : Way → Outcome × Way) (w : WorldState) (told : Outcome) (new : WorldState) → (a ≡ o → d ≢ b) → AtServer a (IsOnWay b step) w told new → seen o d new ≡ seen o d w
   seen_elsewhere a b step w told new other does = seen_at a (IsOnWay b step) w told new (λ before out after here is. on_other_way b step before out after (other here) is) does
 
-  pub seen_given : (a place : ℕ) (w : WorldState) (told : Outcome) (new : WorldState) → AtServer a (IsArrived place) w told new → seen o d new ≡ seen o d w
-  seen_given a place w told new does = seen_at a (IsArrived place) w told new (λ before out after here is. same before out after is) does
+  pub seen_given : (a place : ℕ) (w : WorldState) (told : Outcome) (new : WorldState) → AtServer a (IsAppliedAt place) w told new → seen o d new ≡ seen o d w
+  seen_given a place w told new does = seen_at a (IsAppliedAt place) w told new (λ before out after here is. same before out after is) does
     where
-      same : (before : ServerState) (out : Outcome) (after : ServerState) → IsArrived place before out after → seen_in after d ≡ seen_in before d
+      same : (before : ServerState) (out : Outcome) (after : ServerState) → IsAppliedAt place before out after → seen_in after d ≡ seen_in before d
       same before _ _ (no_room none) = refl
       same before _ _ (nothing none) = refl
       same before _ _ (arrived room after event later told next applied) = refl

@@ -1,5 +1,5 @@
 -- Parcels that get on the ways to their destinations.
-use Rattle.std.proofs.Common.{arith, ◌≡◌, ◌≢◌, ◌⊎◌, inl, inr, ℕ, zero, suc, ◌+◌, ◌<◌, ◌==◌, Bool, true, false, ◌||◌, not, if◌then◌else◌, List, [], ◌∷◌, ◌++◌, length, set, map, take, get_or, Option, Some, None, refl, sym, ap, ◌∙◌, subst, append_assoc, append-nil, length-set, true≢false}
+use Rattle.std.proofs.Common.{arith, ◌≡◌, ◌≢◌, ◌⊎◌, inl, inr, ℕ, zero, suc, ◌+◌, ◌<◌, ◌≤◌, ◌==◌, Bool, true, false, ◌||◌, not, if◌then◌else◌, List, [], ◌∷◌, ◌++◌, length, set, map, take, get_or, Option, Some, None, refl, sym, ap, ◌∙◌, subst, append_assoc, append-nil, length-set, true≢false}
 use Rattle.std.specs.List.{slice_get, filter_map, cons_option, AllPairs}
 use Rattle.std.specs.Option.{option_map, option_to_list}
 use Rattle.std.specs.List.Sorted.{IsStrictlyIncreasing}
@@ -101,6 +101,17 @@ pushed_here parcel later ways k way new is here gives =
     ap (pushed_from 0 later) (map-set (λ (l : WayState). l.way) ways k new ∙ ap (set (ways_of ways) k) gives)
     ∙ one_pushed 0 parcel later (ways_of ways) k way.way (omega (arith, is)) (slice_get-map (λ (l : WayState). l.way) ways k ∙ ap (option_map (λ (l : WayState). l.way)) here)
 
+-- those for a destination, with a parcel before them
+pub one_here : (parcel : Parcel) (later : List Parcel) (d : ℕ) → parcel.place.dest ≡ d → length (parcels_for d (parcel ∷ later)) ≡ 1 + length (parcels_for d later)
+one_here parcel later d is = ap (λ (b : Bool). length (if b then parcel ∷ parcels_for d later else parcels_for d later)) (eq-eqb parcel.place.dest d is) ∙ omega arith
+
+pub no_more : (parcel : Parcel) (later : List Parcel) (d : ℕ) → length (parcels_for d later) ≤ length (parcels_for d (parcel ∷ later))
+no_more parcel later d = by (parcel.place.dest == d)
+  where
+    by : (b : Bool) → length (parcels_for d later) ≤ length (if b then parcel ∷ parcels_for d later else parcels_for d later)
+    by true = omega arith
+    by false = omega arith
+
 -- ---- the parcels of an entry
 
 -- one more
@@ -177,6 +188,17 @@ module _ (entries : List Entry) (load : Load) where
       by (inr not_among) =
           none_for d dests not_among ∙ none_either_way (is_closed entries d)
           ∙ ap (λ (b : Bool). option_to_list (parcel_where d (is_closed entries d) (if b then Some load else None))) (sym not_among)
+
+-- there is one for a destination at most
+pub one_at_most : (entries : List Entry) (load : Load) (d : ℕ) (dests : List ℕ) → IsStrictlyIncreasing dests → length (parcels_for d (filter_map (parcel_to entries load) dests)) ≤ 1
+one_at_most entries load d dests rising =
+    let are = ap length (placed_where entries load d dests (AllPairs-from_increasing dests rising)) in
+    let few = by (parcel_where entries load d (is_closed entries d) (if is_among dests d then Some load else None)) in
+    omega (arith, are, few)
+  where
+    by : (parcel : Option Parcel) → length (option_to_list parcel) ≤ 1
+    by None = omega arith
+    by (Some parcel) = omega arith
 
 load_sent : (offered : Offered) (dests : List ℕ) (d : ℕ) → (if is_among dests d then Some (load_of offered) else None) ≡ load_for d (entry_of offered dests)
 load_sent (offered.Event event) dests d = refl

@@ -8,6 +8,7 @@ use Rattle.serde_json.specs.Data.{Data}
 use Rattle.fed_json.specs.CanonicalText.{canonical_text}
 use Rattle.fed_keys.specs.StandIn.{stand_in_key, stand_in_signature}
 use Rattle.fed_event.specs.Checked.{CheckedEvent}
+use Rattle.fed_event.specs.Fields.{room_id_of}
 use Rattle.fed_room_contract.specs.Graph.{is_stored}
 use Rattle.fed_room_contract.specs.Room.{RoomState, event_id}
 use Rattle.fed_room.specs.Room.{room_rules}
@@ -22,6 +23,7 @@ use Rattle.fed_sim.specs.declared.outcome.Outcome.{Outcome}
 use Rattle.fed_sim.specs.declared.setup.Setup.{Setup}
 use Rattle.fed_sim.specs.declared.step.Step.{Step}
 use Rattle.fed_dest.specs.Joined.{AreDestinations}
+use Rattle.fed_dest.specs.List.{place_of}
 use Rattle.fed_exchange.specs.Messages.{asked_of, bytes_sent}
 use Rattle.fed_sim.specs.Packets.{packet_at, with_packet, IsOn, IsTaken}
 use Rattle.fed_sim.specs.Running.{IsRun}
@@ -105,10 +107,11 @@ AllTakeOnce setup = (steps : List Step) (replies : List Outcome) (w : WorldState
 
 -- ---- where events go
 
--- An event of a server's journal is stored in one of its rooms, and its destinations are the places of the servers, of these names, that are
--- joined in the state before it in that room's graph.
-pub record IsOfRoom (names : List (List ℕ)) (s : ServerState) (event : CheckedEvent) (dests : List ℕ) : Type 0 where
+-- An event of a server's journal is stored in the server's room of the id that it bears, among rooms of these ids, and its destinations are the places
+-- of the servers, of these names, that are joined in the state before it in that room's graph.
+pub record IsOfRoom (names known : List (List ℕ)) (s : ServerState) (event : CheckedEvent) (dests : List ℕ) : Type 0 where
   pub place : ℕ
+  pub place_is : place_of known (room_id_of event.event) ≡ Some place
   pub room : RoomState
   pub room_is : slice_get s.rooms place ≡ Some room
   pub stored : is_stored room.stored (event_id event) ≡ true
@@ -117,7 +120,7 @@ pub record IsOfRoom (names : List (List ℕ)) (s : ServerState) (event : Checked
 -- So it is with each event of each journal.
 abbrev pub AllAreDestinations : WorldState → Type 0
 AllAreDestinations w = (place k : ℕ) (s : ServerState) (event : CheckedEvent) (dests : List ℕ) → slice_get w.servers place ≡ Some s → slice_get s.journal k ≡ Some (entry.Event event dests)
-    → IsOfRoom w.names s event dests
+    → IsOfRoom w.names w.known s event dests
 
 -- ---- the headline
 

@@ -9,7 +9,7 @@ pub mod Offering
 pub mod Sending
 pub mod Taking
 pub mod Ways
-pub mod Arriving
+pub mod Applying
 pub mod World
 pub mod Shape
 pub mod WorldFields
@@ -17,8 +17,10 @@ pub mod WorldParts
 pub mod Packets
 pub mod Showing
 pub mod Rounds
+pub mod RoundsInPart
 pub mod Steps
 pub mod Running
+pub mod Starts
 pub mod NewServer
 pub mod Headline
 pub mod Calm

@@ -10,7 +10,7 @@ use Rattle.fed_sim.specs.declared.outcome.Outcome.{Outcome}
 use Rattle.fed_sim.specs.declared.outcome.Outcome.TheVariants.{NoSuchServer, NothingToPost, NotDue, Posted, NoSuchRequest, Answered, NoSuchAnswer}
 use Rattle.fed_exchange.specs.Messages.{asked_of, bytes_sent, IsReadable, IsRequestIn, HasNoRequest, IsStatusOf}
 use Rattle.fed_sim.specs.Server.{ServerState}
-use Rattle.fed_sim.specs.Taking.{IsReceived}
+use Rattle.fed_sim.specs.Taking.{IsTakeAt}
 use Rattle.fed_sim.specs.Ways.{way_to, IsOnWay, settling}
 use Rattle.fed_sim.specs.World.{PacketState, request, answer, WorldState, with_server, AtServer}
 
@@ -69,7 +69,7 @@ pub data IsTaken (k : ℕ) (old : WorldState) : Outcome → WorldState → Type 
       → IsTaken k old NoSuchRequest old
   taken : (server dest n : ℕ) (bytes : List ℕ) (r : RequestValue) (before after : ServerState) (reply : Answer)
       → packet_at old.packets k ≡ Some (request server dest n bytes) → IsRequestIn bytes r → slice_get old.servers dest ≡ Some before
-      → IsReceived old.known r before reply after
+      → IsTakeAt old.known r before reply after
       → IsTaken k old (Answered (length old.packets + 1) reply.status) (with_packet (with_server old dest after) (answer server dest n reply))
 
 -- What is told when the answer of packet k reaches the server that sent the request, and what the world is then.

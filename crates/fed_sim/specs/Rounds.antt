@@ -7,7 +7,7 @@ use Rattle.fed_outbox.specs.Collecting.{Way}
 use Rattle.fed_outbox.specs.Outbox.{is_unanswered}
 use Rattle.fed_sim.specs.declared.outcome.Outcome.{Outcome}
 use Rattle.fed_sim.specs.declared.outcome.Outcome.TheVariants as outcome
-use Rattle.fed_sim.specs.Arriving.{IsArrived}
+use Rattle.fed_sim.specs.Applying.{IsAppliedAt}
 use Rattle.fed_sim.specs.Packets.{way_from, IsPosted, IsTaken, IsSettled}
 use Rattle.fed_sim.specs.Server.{ServerState}
 use Rattle.fed_sim.specs.Ways.{IsOnWay, collecting, cutting}
@@ -86,7 +86,7 @@ arrivals_at w s place = option_map_or (λ (events : List CheckedEvent). events) 
 
 -- the room is given the first of them, and then stores what is ready
 abbrev pub GivesOne : ℕ → ℕ → WorldState → WorldState → Type 0
-GivesOne s place old new = (told : Outcome) × AtServer s (IsArrived place) old told new
+GivesOne s place old new = (told : Outcome) × AtServer s (IsAppliedAt place) old told new
 
 -- the room is given all of them
 abbrev pub GivesAll : ℕ → ℕ → WorldState → WorldState → Type 0

@@ -16,7 +16,7 @@ use Rattle.fed_sim.specs.NewServer.{IsNewServer}
 use Rattle.fed_sim.specs.Offering.{signer_named}
 use Rattle.fed_sim.specs.Server.{ServerState}
 use Rattle.fed_sim.specs.Setup.{id_of, users_of, is_setup}
-use Rattle.fed_sim.specs.Steps.{Ran}
+use Rattle.fed_sim.specs.Steps.{ReachedInPart, Makes, Ran}
 use Rattle.fed_sim.specs.World.{WorldState}
 
 -- a room starts with these events, which its users make at the servers of these names: each of them is accepted
@@ -68,9 +68,8 @@ pub record IsRun (setup : Setup) (steps : List Step) (replies : List Outcome) (n
   pub begins : Begins setup begin
   pub ran : Ran begin steps replies new
 
--- A world that comes of a run: by some list of steps, from the beginning of some setup.
-pub record ComesOfRun (w : WorldState) : Type 0 where
-  pub setup : Setup
-  pub steps : List Step
-  pub replies : List Outcome
-  pub ran : IsRun setup steps replies w
+-- A world that comes of a run: by some steps, from the beginning of some setup, or by some of those that a round of calm is made of, as within one.
+pub data ComesOfRun : WorldState → Type 0 where
+  begins_run : (setup : Setup) (w : WorldState) → Begins setup w → ComesOfRun w
+  by_step : (step : Step) (old : WorldState) (told : Outcome) (new : WorldState) → ComesOfRun old → Makes step old told new → ComesOfRun new
+  within_round : (old new : WorldState) → ComesOfRun old → ReachedInPart old new → ComesOfRun new

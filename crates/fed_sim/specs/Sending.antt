@@ -15,6 +15,14 @@ use Rattle.fed_journal.specs.declared.offered.Offered.{Offered}
 abbrev pub HasRoom : ℕ → List WayState → Type 0
 HasRoom more ways = (d : ℕ) (way : WayState) → slice_get ways d ≡ Some way → more ≤ way.free
 
+-- those that are for d
+abbrev pub parcels_for : ℕ → List Parcel → List Parcel
+parcels_for d parcels = filter (λ (parcel : Parcel). parcel.place.dest == d) parcels
+
+-- on each way there is room for those of the parcels that are for its destination
+abbrev pub HasRoomFor : List Parcel → List WayState → Type 0
+HasRoomFor parcels ways = (d : ℕ) (way : WayState) → slice_get ways d ≡ Some way → length (parcels_for d parcels) ≤ way.free
+
 -- servers that are among so many
 abbrev pub AreAmong : ℕ → List ℕ → Type 0
 AreAmong count servers = (d : ℕ) → is_among servers d ≡ true → d < count
@@ -22,10 +30,6 @@ AreAmong count servers = (d : ℕ) → is_among servers d ≡ true → d < count
 -- parcels that are for servers among so many
 abbrev pub AreFor : ℕ → List Parcel → Type 0
 AreFor count parcels = (k : ℕ) (parcel : Parcel) → slice_get parcels k ≡ Some parcel → parcel.place.dest < count
-
--- those that are for d
-abbrev pub parcels_for : ℕ → List Parcel → List Parcel
-parcels_for d parcels = filter (λ (parcel : Parcel). parcel.place.dest == d) parcels
 
 -- the ways to the servers from place n on, with the parcels for each of them behind its queue
 abbrev pub pushed_from : ℕ → List Parcel → List Way → List Way

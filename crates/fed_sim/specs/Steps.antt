@@ -4,10 +4,11 @@ use Rattle.fed_sim.specs.declared.outcome.Outcome.{Outcome}
 use Rattle.fed_sim.specs.declared.outcome.Outcome.TheVariants as outcome
 use Rattle.fed_sim.specs.declared.step.Step.{Step}
 use Rattle.fed_sim.specs.declared.step.Step.TheVariants.{Offer, OfferEdu, Close, Collect, Cut, Failed, Post, Take, Settle, Apply, Tick, Show, Calm}
-use Rattle.fed_sim.specs.Arriving.{IsArrived, IsArrivedInPart, IsGivenTo, IsGivenInPart}
+use Rattle.fed_sim.specs.Applying.{IsAppliedAt, IsAppliedInPart, IsGivenTo, IsGivenInPart}
 use Rattle.fed_sim.specs.Offering.{IsOffered, IsEduOffered, IsClosedFor}
 use Rattle.fed_sim.specs.Packets.{IsPosted, IsTaken, IsSettled}
 use Rattle.fed_sim.specs.Rounds.{AreRounds}
+use Rattle.fed_sim.specs.RoundsInPart.{AreRoundsInPart}
 use Rattle.fed_sim.specs.Showing.{IsShown}
 use Rattle.fed_sim.specs.Ways.{IsOnWay, collecting, cutting, failing}
 use Rattle.fed_sim.specs.World.{WorldState, AtServer, AtServerInPart, dated, ticked}
@@ -19,7 +20,7 @@ pub data Moves (old : WorldState) (told : Outcome) (new : WorldState) : Type 0 w
   posted : (server dest : ℕ) → IsPosted server dest old told new → Moves old told new
   taken : (packet : ℕ) → IsTaken packet old told new → Moves old told new
   settled : (packet : ℕ) → IsSettled packet old told new → Moves old told new
-  given : (server place : ℕ) → AtServer server (IsArrived place) old told new → Moves old told new
+  given : (server place : ℕ) → AtServer server (IsAppliedAt place) old told new → Moves old told new
   risen : (ms : ℕ) → (told, new) ≡ ticked ms old → Moves old told new
 
 -- the world after some such steps, one after another
@@ -30,7 +31,7 @@ pub data Reached (old : WorldState) : WorldState → Type 0 where
 -- the same where memory ran out in the step after them
 pub data ReachedInPart (old new : WorldState) : Type 0 where
   before_it : Reached old new → ReachedInPart old new
-  in_it : (between : WorldState) (server place : ℕ) → Reached old between → AtServerInPart server (IsArrivedInPart place) between new → ReachedInPart old new
+  in_it : (between : WorldState) (server place : ℕ) → Reached old between → AtServerInPart server (IsAppliedInPart place) between new → ReachedInPart old new
 
 -- What is told of a step, and the world then.
 abbrev pub Does : Step → WorldState → Outcome → WorldState → Type 0
@@ -48,11 +49,11 @@ Does (Tick ms) old = λ told new. (told, new) ≡ ticked ms old
 Does (Show server origin) old = λ told new. IsShown server origin old told × (new ≡ old)
 Does (Calm rounds) old = λ told new. (told ≡ outcome.Calm new.now) × AreRounds rounds old new
 
--- What a step leaves where memory runs out: the world as it was, but where a room was given an event. Cutting, failing, waiting and showing take
--- no memory.
+-- What a step leaves where memory runs out: the world as it was, but where a room was given an event, and rounds of calm leave what they were made of
+-- up to the step that was refused. Cutting, failing, waiting and showing take no memory.
 abbrev pub Leaves : Step → WorldState → WorldState → Type 0
 Leaves (Apply server room) old new = AtServerInPart server (IsGivenInPart old.known (string_bytes room)) old new
-Leaves (Calm rounds) old new = ReachedInPart old new
+Leaves (Calm rounds) old new = AreRoundsInPart rounds old new
 Leaves (Offer server draft) old new = new ≡ old
 Leaves (OfferEdu server edu dests) old new = new ≡ old
 Leaves (Close server dest) old new = new ≡ old

@@ -31,6 +31,6 @@ with_taken old new = record {
 }
 
 -- A request reached the server, which gave this reply: its inbox has answered, and what it took for the rooms, of these ids, is in front of them.
-pub record IsReceived (known : List (List ℕ)) (request : RequestValue) (old : ServerState) (reply : Answer) (new : ServerState) : Type 0 where
+pub record IsTakeAt (known : List (List ℕ)) (request : RequestValue) (old : ServerState) (reply : Answer) (new : ServerState) : Type 0 where
   pub taken : IsTake stand_in_checks known old.inbox old.arrivals request reply new.inbox new.arrivals
   pub others : new ≡ with_taken old new

@@ -6,7 +6,7 @@ ghost use Rattle.fed_sim.specs.Way.{ways_of};
 ghost use Rattle.fed_journal.specs.Offered.{load_of};
 ghost use Rattle.fed_journal.specs.Offering.{open_among, has_place};
 ghost use Rattle.fed_journal.specs.Queues.{parcel_to};
-ghost use Rattle.fed_sim.specs.Sending.{HasRoom, AreAmong, AreFor, pushed_from, entered_told, entries_after, ways_after};
+ghost use Rattle.fed_sim.specs.Sending.{HasRoom, HasRoomFor, AreAmong, AreFor, pushed_from, entered_told, entries_after, ways_after};
 
 use crate::way::Way;
 use fed_dest::ServerSet;
@@ -81,12 +81,12 @@ fn parcels_to(
     Ok(parcels)
 }
 
-// Makes room in the journal for an entry and for as many closings as it places parcels, and on each way for these. False where the
-// journal has no place for them.
+// Makes room in the journal for an entry and for as many closings as it places parcels, and on each way for the one that it may place
+// there. False where the journal has no place for them.
 fn reserve(journal: &mut Journal, ways: &mut [Way], parcels: usize) -> Result<bool, NoMemory>
     ensures told { IfOk result (λ fits. fits ≡ has_place journal.old.entries parcels) }
     ensures reserved { IfOk result (λ fits. fits ≡ true → 0 < journal.new.reserved) }
-    ensures room { IfOk result (λ fits. fits ≡ true → HasRoom parcels ways.new) }
+    ensures room { IfOk result (λ fits. fits ≡ true → HasRoom 1 ways.new) }
     ensures entries { journal.new.entries ≡ journal.old.entries }
     ensures ways { ways_of ways.new ≡ ways_of ways.old }
     ensures count { length ways.new ≡ length ways.old }
@@ -96,25 +96,25 @@ fn reserve(journal: &mut Journal, ways: &mut [Way], parcels: usize) -> Result<bo
         Err(JournalFault::Memory) => return Err(NoMemory),
         Err(JournalFault::Limit) => return Ok(false),
     }
-    make_room(ways, parcels)?;
+    make_room(ways)?;
     Ok(true)
 }
 
-// Makes room for so many more parcels on each way.
-fn make_room(ways: &mut [Way], more: usize) -> Result<(), NoMemory>
-    ensures ok { OnOk result (HasRoom more ways.new) }
+// Makes room for one more parcel on each way.
+fn make_room(ways: &mut [Way]) -> Result<(), NoMemory>
+    ensures ok { OnOk result (HasRoom 1 ways.new) }
     ensures ways { ways_of ways.new ≡ ways_of ways.old }
     ensures count { length ways.new ≡ length ways.old }
 {
     for way in ways.iter_mut() {
-        way.make_room(more)?;
+        way.make_room(1)?;
     }
     Ok(())
 }
 
 // Each parcel waits on the way to its destination.
 fn push_all(ways: &mut [Way], parcels: Vec<Parcel>)
-    requires room { HasRoom (length parcels.items) ways.old }
+    requires room { HasRoomFor parcels.items ways.old }
     requires dests { AreFor (length ways.old) parcels.items }
     ensures ways { ways_of ways.new ≡ pushed_from 0 parcels.items (ways_of ways.old) }
     ensures count { length ways.new ≡ length ways.old }

@@ -5,7 +5,7 @@ ghost use Rattle.fed_sim.specs.declared.script.faults.ScriptError.{ScriptError};
 ghost use Rattle.fed_sim.specs.declared.setup.Setup.{Setup};
 ghost use Rattle.fed_sim.specs.declared.step.Step.{Step};
 ghost use Rattle.fed_sim.specs.Calm.{CalmDelivers};
-ghost use Rattle.fed_sim.specs.Headline.{Headline};
+ghost use Rattle.fed_sim.specs.Headline.{Headline, TakesOnce};
 ghost use Rattle.fed_sim.specs.Rounds.{AreRounds};
 ghost use Rattle.fed_sim.specs.Running.{ComesOfRun, IsRun};
 ghost use Rattle.fed_sim.specs.Script.{IsScript, IsNoScript};
@@ -18,8 +18,11 @@ use fed_outbox::nothing_is_lost_on_the_way;
 /// what counts as delivered was taken. Every request that reaches its server is taken whole, or gets the reply with 200 that its
 /// transaction got before, or finds no memory; in the last two cases nothing is taken. Each event of a journal is stored in a room of its
 /// server, and its destinations are just the other listed servers that are joined in the state before it in that room's graph.
+///
+/// Requests are taken so in each world that comes of a run, within rounds of calm too.
 pub fn runs_deliver()
-    ensures { (setup : Setup) (steps : List Step) (replies : List Outcome) (w : WorldState) → IsRun setup steps replies w → Headline setup steps replies w }
+    ensures headline { (setup : Setup) (steps : List Step) (replies : List Outcome) (w : WorldState) → IsRun setup steps replies w → Headline setup steps replies w }
+    ensures takes { (w : WorldState) → ComesOfRun w → TakesOnce w }
 {
     nothing_is_lost_on_the_way();
 }

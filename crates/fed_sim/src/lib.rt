@@ -9,20 +9,21 @@
 //! - `server`: `Server`, what a server keeps
 //! - `entering`: what is offered gets into a journal, and on its way
 //! - `offering`: what a server sends
-//! - `receiving`: what a server takes
-//! - `arriving`: what is taken for a room gets into it
+//! - `taking`: what a server takes
+//! - `applying`: what is taken for a room gets into it
 //! - `ways`: what a server does on the way to one destination
 //! - `packet`: `Packet`, what is on its way
 //! - `world`: `World`
 //! - `seen`: what others see of it
 //! - `making`: its steps
 //! - `rounds`: rounds in which nothing is lost
-//! - `running`: `run`, a world after a list of steps
+//! - `starting`: the rooms as they begin
+//! - `running`: `run`, a world after a list of steps, and `run_on`, which tells a `Listener` of each
 //! - `laws`: what holds of every run
 //! - `script`: `read_script`, the steps that a text names
 #![tactic(auto)]
 
-mod arriving;
+mod applying;
 mod entering;
 mod hosted;
 mod laws;
@@ -30,7 +31,6 @@ mod making;
 mod offering;
 mod outcome;
 mod packet;
-mod receiving;
 mod rounds;
 mod running;
 mod script;
@@ -38,7 +38,9 @@ mod seen;
 mod server;
 mod setup;
 mod setup_check;
+mod starting;
 mod step;
+mod taking;
 mod way;
 mod ways;
 mod world;
@@ -48,7 +50,7 @@ pub use laws::{calm_delivers, runs_deliver, scripts_are_told_apart, worlds_hold_
 pub use outcome::{Collected, EduRefusal, Outcome, SendRefusal};
 pub use packet::Packet;
 pub use rounds::calm;
-pub use running::run;
+pub use running::{Listener, begin, run, run_on};
 pub use script::{ScriptError, ScriptFault, read_script};
 pub use setup::{RoomSetup, Setup, SimFault};
 pub use step::Step;

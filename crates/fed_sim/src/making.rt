@@ -1,7 +1,7 @@
 // The steps of a world.
 ghost use Rattle.std.specs.Prelude.{◌≡◌, ◌≤◌, OnErr, IfOk, ◌&&◌, length, nat_lt, nat_le};
 ghost use Rattle.fed_inbox.specs.Taken.{taken_left};
-ghost use Rattle.fed_sim.specs.Arriving.{IsArrived, IsArrivedInPart, IsGivenTo, IsGivenInPart};
+ghost use Rattle.fed_sim.specs.Applying.{IsAppliedAt, IsAppliedInPart, IsGivenTo, IsGivenInPart};
 ghost use Rattle.fed_sim.specs.Offering.{IsOffered, IsEduOffered, IsClosedFor};
 ghost use Rattle.fed_sim.specs.Packets.{IsPosted, IsTaken, IsSettled};
 ghost use Rattle.fed_sim.specs.Showing.{IsShown, count_of};
@@ -213,7 +213,7 @@ impl World {
         let Some(receiver) = self.servers.get_mut(dest.place()) else {
             return Ok(Outcome::NoSuchRequest);
         };
-        let reply = receiver.receive(alloc, &self.known, &request)?;
+        let reply = receiver.take(alloc, &self.known, &request)?;
         let status = reply.status();
         // There is room for it.
         self.packets
@@ -272,9 +272,9 @@ impl World {
         server: ServerIndex,
         place: usize,
     ) -> Result<Outcome, NoMemory>
-        ensures applied { IfOk result (λ told. AtServer server (IsArrived place) (world_of self.old) told (world_of self.new)) }
+        ensures applied { IfOk result (λ told. AtServer server (IsAppliedAt place) (world_of self.old) told (world_of self.new)) }
         ensures replies { replies_of self.new ≡ replies_of self.old }
-        ensures err { OnErr result (AtServerInPart server (IsArrivedInPart place) (world_of self.old) (world_of self.new)) }
+        ensures err { OnErr result (AtServerInPart server (IsAppliedInPart place) (world_of self.old) (world_of self.new)) }
     {
         let Some(receiver) = self.servers.get_mut(server.place()) else {
             return Ok(Outcome::NoSuchServer);

@@ -12,8 +12,8 @@ ghost use Rattle.fed_sim.specs.Offering.{IsOffered, IsOfferedAt, IsEduOffered, I
 use crate::entering::{Entered, enter};
 use crate::hosted::Hosted;
 use crate::outcome::{EduRefusal, Outcome, SendRefusal};
-use crate::receiving::place_of;
 use crate::server::Server;
+use crate::taking::place_of;
 use fed_dest::{List, ServerIndex, ServerSet, destinations};
 use fed_event::{Checked, StandIn};
 use fed_journal::{Cause, JournalFault, Load, Offered, Parcel, edu_fault};

@@ -41,7 +41,8 @@ pub enum Collected {
 /// What a step answered.
 #[derive(Debug, PartialEq, Eq, Drop)]
 pub enum Outcome {
-    /// Memory ran out. Nothing changed, but that the room of an `Apply` may have received the event and stored some that waited.
+    /// Memory ran out. Nothing changed, but that the room of an `Apply` may have received the event and stored some that waited, and that a
+    /// `Calm` is made up to the step that was refused.
     NoMemory,
     /// A place in the step is not that of a listed server, or the same server is named on both sides.
     NoSuchServer,

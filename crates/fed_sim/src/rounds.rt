@@ -2,7 +2,7 @@
 ghost use Rattle.std.specs.Prelude.{◌≡◌, OnOk, OnErr, IfOk, false, length};
 ghost use Rattle.fed_sim.specs.Calm.{CalmDelivers};
 ghost use Rattle.fed_sim.specs.Rounds.{Times, ForEach, CollectsOne, Cuts, IsExchanged, IsCalmWay, GivesAll, BringsFrom, GivesRooms, IsRound, AreRounds, queue_at};
-ghost use Rattle.fed_sim.specs.Steps.{ReachedInPart};
+ghost use Rattle.fed_sim.specs.RoundsInPart.{TimesInPart, ForEachInPart, IsRefused, IsExchangedInPart, IsCalmWayInPart, BringsFromInPart, GivesAllInPart, GivesRoomsInPart, IsRoundInPart, AreRoundsInPart};
 ghost use Rattle.fed_sim.specs.WorldParts.{world_of, replies_of};
 
 use crate::laws::{calm_delivers, runs_deliver};
@@ -24,12 +24,14 @@ use std::alloc::Global;
 ///
 /// # Errors
 ///
-/// `NoMemory`; then the steps before the one that was refused are made.
+/// `NoMemory`; then what the rounds are made of was made in its order up to the step that was refused, and no more: the moment has risen to no later
+/// one than that at which a transaction was due. The refused step left all as it was, but that a room may have received an event and stored some that
+/// waited.
 pub fn calm(alloc: Global, world: &mut World, rounds: u64) -> Result<(), NoMemory>
     ensures rounds { OnOk result (AreRounds rounds (world_of world.old) (world_of world.new)) }
     ensures delivered { OnOk result (CalmDelivers rounds (world_of world.old) (world_of world.new)) }
     ensures replies { replies_of world.new ≡ replies_of world.old }
-    ensures err { OnErr result (ReachedInPart (world_of world.old) (world_of world.new)) }
+    ensures err { OnErr result (AreRoundsInPart rounds (world_of world.old) (world_of world.new)) }
 {
     calm_delivers();
     for _ in 0..rounds {
@@ -45,7 +47,7 @@ fn calm_round(world: &mut World, alloc: Global) -> Result<bool, NoMemory>
     ensures round { OnOk result (IsRound (world_of world.old) (world_of world.new)) }
     ensures idle { IfOk result (λ is_busy. is_busy ≡ false → world_of world.new ≡ world_of world.old) }
     ensures replies { replies_of world.new ≡ replies_of world.old }
-    ensures err { OnErr result (ReachedInPart (world_of world.old) (world_of world.new)) }
+    ensures err { OnErr result (IsRoundInPart (world_of world.old) (world_of world.new)) }
 {
     let has_brought = bring_all(world, alloc)?;
     let has_given = give_all(world, alloc)?;
@@ -57,7 +59,7 @@ fn bring_all(world: &mut World, alloc: Global) -> Result<bool, NoMemory>
     ensures brought { OnOk result (ForEach BringsFrom (world_of world.old) (length (world_of world.old).names) (world_of world.new)) }
     ensures idle { IfOk result (λ is_busy. is_busy ≡ false → world_of world.new ≡ world_of world.old) }
     ensures replies { replies_of world.new ≡ replies_of world.old }
-    ensures err { OnErr result (ReachedInPart (world_of world.old) (world_of world.new)) }
+    ensures err { OnErr result (ForEachInPart BringsFrom BringsFromInPart (world_of world.old) (length (world_of world.old).names) (world_of world.new)) }
 {
     let mut is_busy = false;
     for place in 0..world.list.len() {
@@ -71,7 +73,7 @@ fn bring_from(world: &mut World, alloc: Global, server: ServerIndex) -> Result<b
     ensures brought { OnOk result (BringsFrom server (world_of world.old) (world_of world.new)) }
     ensures idle { IfOk result (λ is_busy. is_busy ≡ false → world_of world.new ≡ world_of world.old) }
     ensures replies { replies_of world.new ≡ replies_of world.old }
-    ensures err { OnErr result (ReachedInPart (world_of world.old) (world_of world.new)) }
+    ensures err { OnErr result (BringsFromInPart server (world_of world.old) (world_of world.new)) }
 {
     let mut is_busy = false;
     for place in 0..world.list.len() {
@@ -93,7 +95,7 @@ fn bring(
     ensures brought { OnOk result (IsCalmWay server dest (world_of world.old) (world_of world.new)) }
     ensures idle { IfOk result (λ is_busy. is_busy ≡ false → world_of world.new ≡ world_of world.old) }
     ensures replies { replies_of world.new ≡ replies_of world.old }
-    ensures err { OnErr result (ReachedInPart (world_of world.old) (world_of world.new)) }
+    ensures err { OnErr result (IsCalmWayInPart server dest (world_of world.old) (world_of world.new)) }
 {
     let has_collected = collect_all(world, server, dest)?;
     let is_cut = cut(world, server, dest);
@@ -106,7 +108,7 @@ fn collect_all(world: &mut World, server: ServerIndex, dest: ServerIndex) -> Res
     ensures collected { OnOk result (Times (CollectsOne server dest) (world_of world.old) (length (queue_at (world_of world.old) server dest)) (world_of world.new)) }
     ensures idle { IfOk result (λ is_busy. is_busy ≡ false → world_of world.new ≡ world_of world.old) }
     ensures replies { replies_of world.new ≡ replies_of world.old }
-    ensures err { OnErr result (ReachedInPart (world_of world.old) (world_of world.new)) }
+    ensures err { OnErr result (TimesInPart (CollectsOne server dest) IsRefused (world_of world.old) (length (queue_at (world_of world.old) server dest)) (world_of world.new)) }
 {
     let waiting = world.queued(server, dest);
     for _ in 0..waiting {
@@ -137,7 +139,7 @@ fn exchange(
     ensures exchanged { OnOk result (IsExchanged server dest (world_of world.old) (world_of world.new)) }
     ensures idle { IfOk result (λ is_busy. is_busy ≡ false → world_of world.new ≡ world_of world.old) }
     ensures replies { replies_of world.new ≡ replies_of world.old }
-    ensures err { OnErr result (ReachedInPart (world_of world.old) (world_of world.new)) }
+    ensures err { OnErr result (IsExchangedInPart server dest (world_of world.old) (world_of world.new)) }
 {
     runs_deliver();
     let Some(due_at) = world.due_at(server, dest) else {
@@ -162,7 +164,7 @@ fn give_all(world: &mut World, alloc: Global) -> Result<bool, NoMemory>
     ensures given { OnOk result (ForEach GivesRooms (world_of world.old) (length (world_of world.old).names) (world_of world.new)) }
     ensures idle { IfOk result (λ is_busy. is_busy ≡ false → world_of world.new ≡ world_of world.old) }
     ensures replies { replies_of world.new ≡ replies_of world.old }
-    ensures err { OnErr result (ReachedInPart (world_of world.old) (world_of world.new)) }
+    ensures err { OnErr result (ForEachInPart GivesRooms GivesRoomsInPart (world_of world.old) (length (world_of world.old).names) (world_of world.new)) }
 {
     let mut is_busy = false;
     for place in 0..world.list.len() {
@@ -176,7 +178,7 @@ fn give_rooms(world: &mut World, alloc: Global, server: ServerIndex) -> Result<b
     ensures given { OnOk result (GivesRooms server (world_of world.old) (world_of world.new)) }
     ensures idle { IfOk result (λ is_busy. is_busy ≡ false → world_of world.new ≡ world_of world.old) }
     ensures replies { replies_of world.new ≡ replies_of world.old }
-    ensures err { OnErr result (ReachedInPart (world_of world.old) (world_of world.new)) }
+    ensures err { OnErr result (GivesRoomsInPart server (world_of world.old) (world_of world.new)) }
 {
     let mut is_busy = false;
     for place in 0..world.known.len() {
@@ -195,7 +197,7 @@ fn give(
     ensures given { OnOk result (GivesAll server place (world_of world.old) (world_of world.new)) }
     ensures idle { IfOk result (λ is_busy. is_busy ≡ false → world_of world.new ≡ world_of world.old) }
     ensures replies { replies_of world.new ≡ replies_of world.old }
-    ensures err { OnErr result (ReachedInPart (world_of world.old) (world_of world.new)) }
+    ensures err { OnErr result (GivesAllInPart server place (world_of world.old) (world_of world.new)) }
 {
     let waiting = world.queued_at(server, place);
     for _ in 0..waiting {

@@ -2,26 +2,27 @@
 ghost use Rattle.std.specs.Prelude.{◌≡◌, ℕ, true, false, Some, Err, IfOk, IfErr, OnOk, length, map, slice_get, string_bytes};
 ghost use Rattle.fed_sim.specs.declared.server.Server.{Server};
 ghost use Rattle.fed_sim.specs.declared.setup.RoomSetup.{RoomSetup};
+ghost use Rattle.fed_sim.specs.declared.setup.Setup.{Setup};
 ghost use Rattle.fed_sim.specs.declared.setup.SimFault.TheVariants.{BadSetup};
 ghost use Rattle.fed_sim.specs.CalmSteps.{CalmStepsDeliver};
 ghost use Rattle.fed_sim.specs.Headline.{Headline};
-ghost use Rattle.fed_sim.specs.Hosted.{HostedState};
-ghost use Rattle.fed_sim.specs.Running.{Begins, IsBeginning, IsBegun, HasNoStart, CannotBegin};
+ghost use Rattle.fed_sim.specs.Steps.{Ran};
+ghost use Rattle.fed_sim.specs.Running.{Begins, IsBeginning, HasNoStart, CannotBegin};
 ghost use Rattle.fed_sim.specs.ServerParts.{server_of};
 ghost use Rattle.fed_sim.specs.Setup.{is_setup};
 ghost use Rattle.fed_sim.specs.WorldParts.{world_of};
 
-use crate::hosted::Hosted;
 use crate::laws::{calm_delivers, runs_deliver};
+use crate::outcome::Outcome;
 use crate::server::{Server, keys_of};
 use crate::setup::{RoomSetup, Setup, SimFault};
 use crate::setup_check::{is_setup, list_of};
+use crate::starting::{hosted_rooms, starts};
 use crate::step::Step;
 use crate::world::World;
-use fed_dest::{List, ServerIndex};
+use fed_dest::{List, ServerIndex, ServerName};
 use fed_event::StandIn;
 use fed_json::NoMemory;
-use fed_room::{Room, started};
 use std::alloc::Global;
 
 /// The world that begins with a setup, after these steps. A step that is refused stands as refused among the `replies`.
@@ -45,12 +46,52 @@ pub fn run(alloc: Global, setup: &Setup, steps: &[Step]) -> Result<World, SimFau
     ensures bad { is_setup setup.now ≡ false → result ≡ Err BadSetup }
     ensures bad_only { IfErr result (λ fault. fault ≡ BadSetup → CannotBegin setup.now) }
 {
-    runs_deliver();
     calm_delivers();
-    let mut world = begin(alloc, setup)?;
+    let world = begin(alloc, setup)?;
+    Ok(run_on(alloc, world, steps, &mut Silent)?)
+}
+
+/// Is told what each step of a run came to, as soon as it is made.
+pub trait Listener {
+    /// Why it can be told no more.
+    type Fault: From<NoMemory> + Drop;
+
+    /// What a step came to. The names of the servers stand in the order of their places.
+    fn tell(&mut self, names: &[ServerName], outcome: &Outcome) -> Result<(), Self::Fault>;
+}
+
+// Needs no telling.
+#[derive(Drop)]
+struct Silent;
+
+impl Listener for Silent {
+    type Fault = NoMemory;
+
+    fn tell(&mut self, _names: &[ServerName], _outcome: &Outcome) -> Result<(), NoMemory> {
+        Ok(())
+    }
+}
+
+/// A world after these steps more, each of which the listener is told of when it is made. Their answers are the `replies` of the world then. Of a
+/// world that has just begun it is what `run` says.
+///
+/// # Errors
+///
+/// That of the listener, which is told of no later step then, and none is made; or want of memory for the replies, before any step.
+pub fn run_on<L: Listener>(
+    alloc: Global,
+    mut world: World,
+    steps: &[Step],
+    listener: &mut L,
+) -> Result<World, L::Fault>
+    ensures ran { IfOk result (λ new. Ran (world_of world) steps.now new.replies.items (world_of new)) }
+    ensures headline { IfOk result (λ new. (setup : Setup) → Begins setup (world_of world) → Headline setup steps.now new.replies.items (world_of new)) }
+{
+    runs_deliver();
     let mut replies = Vec::with_capacity(alloc, steps.len())?;
     for step in steps {
         let outcome = world.step(alloc, step);
+        listener.tell(world.names(), &outcome)?;
         // There is room for it.
         replies.push(outcome).unwrap();
     }
@@ -58,8 +99,12 @@ pub fn run(alloc: Global, setup: &Setup, steps: &[Step]) -> Result<World, SimFau
     Ok(world)
 }
 
-// The world before any step.
-fn begin(alloc: Global, setup: &Setup) -> Result<World, SimFault>
+/// The world that begins with a setup, before any step.
+///
+/// # Errors
+///
+/// Those of `run`.
+pub fn begin(alloc: Global, setup: &Setup) -> Result<World, SimFault>
     ensures begins { IfOk result (λ world. Begins setup.now (world_of world)) }
     ensures good { OnOk result (is_setup setup.now ≡ true) }
     ensures bad { is_setup setup.now ≡ false → result ≡ Err BadSetup }
@@ -105,11 +150,12 @@ fn servers(
     ensures bad { IfErr result (λ fault. fault ≡ BadSetup → HasNoStart list.now rooms.now) }
 {
     let keys = all_keys(alloc, list)?;
+    let starts = starts(alloc, rooms, &keys)?;
     let count = list.len();
     let mut servers = Vec::with_capacity(alloc, count)?;
     for place in 0..count {
         let own = ServerIndex::new(place);
-        let hosted = hosted_rooms(alloc, list.name(own), rooms, &keys)?;
+        let hosted = hosted_rooms(alloc, list.name(own), &starts)?;
         servers.push(Server::new(alloc, own, list, known, hosted)?)?;
     }
     Ok(servers)
@@ -124,24 +170,4 @@ fn all_keys(alloc: Global, list: &List) -> Result<Vec<StandIn>, NoMemory>
         keys.push(keys_of(alloc, name.as_str())?)?;
     }
     Ok(keys)
-}
-
-// The rooms as they begin at the server of this name.
-fn hosted_rooms(
-    alloc: Global,
-    own: &str,
-    rooms: &[RoomSetup],
-    keys: &[StandIn],
-) -> Result<Vec<Hosted>, SimFault>
-    ensures count { IfOk result (λ hosted. length hosted.items ≡ length rooms.now) }
-    ensures each { IfOk result (λ hosted. (k : ℕ) (h : HostedState) → slice_get hosted.items k ≡ Some h → (setup : RoomSetup) → slice_get rooms.now k ≡ Some setup → IsBegun keys.now own.now setup h) }
-    ensures bad { IfErr result (λ fault. fault ≡ BadSetup → HasNoStart keys.now rooms.now) }
-{
-    let mut hosted = Vec::with_capacity(alloc, rooms.len())?;
-    for room in rooms {
-        let events = started(alloc, &room.id, &room.users, keys)?;
-        let room = Room::start(alloc, own, events)?;
-        hosted.push(Hosted::new(alloc, room))?;
-    }
-    Ok(hosted)
 }

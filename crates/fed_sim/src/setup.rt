@@ -30,7 +30,8 @@ pub enum SimFault {
     #[error("out of memory")]
     Memory,
     /// The names make no list of servers, or a room cannot begin: its id is no room id, is not of the first user's server or is that of
-    /// another room, it has no users, a user stands there twice, is no user id, or is of a server that is not listed.
+    /// another room, it has no users, a user stands there twice, is no user id, or is of a server that is not listed; or the events that it is to
+    /// begin with are none, or not all of them are accepted, which of ids within their limits has not been seen.
     #[error("bad setup")]
     BadSetup,
 }

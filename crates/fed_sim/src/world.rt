@@ -14,7 +14,7 @@ pub const MAX_MOMENT: u64 = 9_007_199_254_740_991;
 /// Servers with their rooms, journals, outboxes and inboxes, what is on its way between them, and one moment, in milliseconds since the
 /// Unix epoch.
 ///
-/// Each world comes of a run: of steps, from the beginning of a setup.
+/// Each world comes of a run: of steps, from the beginning of a setup, or of those that a round of calm is made of.
 #[derive(Drop)]
 pub struct World {
     pub(crate) list: List,

@@ -10,9 +10,9 @@ use Rattle.fed_journal.specs.Offered.{entry_of, load_of, number_of}
 use Rattle.fed_journal.specs.Offering.{has_place, open_among}
 use Rattle.fed_journal.specs.Queues.{parcel_to}
 use Rattle.fed_sim.specs.Ways.{ways_beyond}
-use Rattle.fed_sim.specs.Sending.{AreFor, fits, pushed_from}
+use Rattle.fed_sim.specs.Sending.{AreFor, parcels_for, fits, pushed_from}
 use Rattle.fed_sim.proofs.Offers.{ways_one}
-use Rattle.fed_sim.proofs.WayQueues.{all_sent, are_for, count_sent}
+use Rattle.fed_sim.proofs.WayQueues.{all_sent, are_for, count_sent, one_at_most}
 use Rattle.fed_sim.proofs.entering.enter.Goals as goal
 
 -- whether it fits, as it was told
@@ -20,6 +20,13 @@ fits_told : (offered : Offered) (dests : List ℕ) (entries : List Entry) (parce
     → told ≡ has_place entries n → told ≡ answer → fits offered dests entries ≡ answer
 fits_told offered dests entries parcels n told answer count are reserved is =
     ap (has_place entries) (sym (count ∙ ap length are ∙ count_sent (load_of offered) dests entries)) ∙ sym reserved ∙ is
+
+pub push_all-requires-clause-room : goal.push_all-requires-clause-room
+push_all-requires-clause-room c d way there =
+    let one = one_at_most c.args.journal.now.entries (load_of c.args.offered) d c.args.dests c.in_ok-parcels.ensures.rising in
+    let same = ap (λ ps. length (parcels_for d ps)) c.in_ok-parcels.ensures.parcels in
+    let room = c.in_ok-reserve.ensures.room c.if-not-branch.false d way there in
+    omega (arith, one, same, room)
 
 pub push_all-requires-clause-dests : goal.push_all-requires-clause-dests
 push_all-requires-clause-dests c =

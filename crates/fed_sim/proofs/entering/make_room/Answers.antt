@@ -11,7 +11,7 @@ returns-in_err-make_room-clause-ways c =
 pub loop-way-preserved : goal.loop-way-preserved
 loop-way-preserved c = (
   same_seen (λ (l : WayState). l.way) c.loop-way.ways c.loop-way.way-index c.make_room.new.self c.way-item.result c.make_room.ensures.way ∙ c.loop-way.invariant.0,
-  λ d way before here. set_all (λ k (l : WayState). k < c.loop-way.way-index + 1 → c.args.more ≤ l.free) c.loop-way.ways c.loop-way.way-index c.make_room.new.self
+  λ d way before here. set_all (λ k (l : WayState). k < c.loop-way.way-index + 1 → 1 ≤ l.free) c.loop-way.ways c.loop-way.way-index c.make_room.new.self
       (λ _. c.in_ok-make_room.ensures.room) (λ k l other there under. c.loop-way.invariant.1 k l (omega (arith, under, other)) there) d way here before,
 )
 

@@ -5,4 +5,4 @@ use Rattle.fed_sim.proofs.entering.make_room.Given as goal
 
 -- the ways that were passed have the room, and hold what they held
 abbrev pub invariant-loop-way : goal.invariant-loop-way
-invariant-loop-way l = (ways_of l.ways ≡ ways_of l.initial.ways) × ((d : ℕ) (way : WayState) → d < l.way-index → slice_get l.ways d ≡ Some way → l.more ≤ way.free)
+invariant-loop-way l = (ways_of l.ways ≡ ways_of l.initial.ways) × ((d : ℕ) (way : WayState) → d < l.way-index → slice_get l.ways d ≡ Some way → 1 ≤ way.free)

@@ -1,10 +1,10 @@
-use Rattle.std.proofs.Common.{◌+◌, refl, sym, ap, subst, ◌∙◌}
+use Rattle.std.proofs.Common.{arith, ◌+◌, refl, sym, ap, subst, ◌∙◌}
 use Rattle.fed_sim.specs.declared.world.World.{World}
 use Rattle.fed_sim.specs.Rounds.{ForEach, for_none, IsCalmWay, IsCalmPair, itself, apart}
+use Rattle.fed_sim.specs.RoundsInPart.{BringsFromInPart, IsCalmWayInPart}
 use Rattle.fed_sim.specs.WorldParts.{replies_of, world_of}
 use Rattle.fed_sim.proofs.Servers.{on_error}
-use Rattle.fed_sim.proofs.CalmSteps.{each_reach, pair_reach, one_place, idle_still, same_place, other_place}
-use Rattle.fed_sim.proofs.Reaching.{in_part_then}
+use Rattle.fed_sim.proofs.CalmSteps.{one_place, idle_still, same_place, other_place}
 use Rattle.fed_sim.proofs.rounds.bring_from.Goals.{then-ne+in_ok-is_busy, else-ne}
 use Rattle.fed_sim.proofs.rounds.bring_from.Goals as goal
 
@@ -13,7 +13,18 @@ loop-place-init c = (for_none, λ _. refl, refl)
 
 pub returns-in_err-is_busy-clause-err : goal.returns-in_err-is_busy-clause-err
 returns-in_err-is_busy-clause-err c =
-    on_error c.from_residual.result (in_part_then _ _ _ (each_reach (IsCalmPair c.args.server) (pair_reach c.args.server) _ _ _ c.loop-place.invariant.0) c.in_err-is_busy.ensures.err)
+    let old = world_of c.args.world.now in
+    let part : BringsFromInPart c.args.server old (world_of c.bring.new.world) = record {
+      place = c.loop-place.place;
+      within = omega (arith, c.loop-place-test.true, c.len-place-end.ensures.len);
+      between = world_of c.loop-place.world;
+      before = c.loop-place.invariant.0;
+      part = record {
+        apart = other_place c.new-dest.result c.loop-place.place c.args.server c.ne.result c.new-dest.ensures c.ne.ensures c.if-ne.true;
+        way = subst (λ d. IsCalmWayInPart c.args.server d (world_of c.loop-place.world) (world_of c.bring.new.world)) c.new-dest.ensures c.in_err-is_busy.ensures.err;
+      };
+    } in
+    on_error c.from_residual.result part
 
 pub loop-place-preserved : goal.loop-place-preserved
 loop-place-preserved c =

@@ -1,16 +1,25 @@
 use Rattle.std.proofs.Common.{refl, ◌∙◌}
 use Rattle.fed_sim.specs.Rounds.{IsRound, never}
+use Rattle.fed_sim.specs.RoundsInPart.{AreRoundsInPart}
+use Rattle.fed_sim.specs.WorldParts.{world_of}
 use Rattle.fed_sim.proofs.Servers.{on_error}
-use Rattle.fed_sim.proofs.CalmSteps.{rounds_reach, one_time, idle_rounds, all_rounds}
+use Rattle.fed_sim.proofs.CalmSteps.{one_time, idle_rounds, all_rounds}
 use Rattle.fed_sim.proofs.Delivering.{delivers_of_some}
-use Rattle.fed_sim.proofs.Reaching.{in_part_then}
 use Rattle.fed_sim.proofs.rounds.calm.Goals as goal
 
 pub loop-init : goal.loop-init
 loop-init c = (never, refl)
 
 pub returns-in_err-calm_round-clause-err : goal.returns-in_err-calm_round-clause-err
-returns-in_err-calm_round-clause-err c = on_error c.from_residual.result (in_part_then _ _ _ (rounds_reach _ _ _ c.loop.invariant.0) c.in_err-calm_round.ensures.err)
+returns-in_err-calm_round-clause-err c =
+    let part : AreRoundsInPart c.args.rounds (world_of c.args.world.now) (world_of c.calm_round.new.world) = record {
+      done = c.loop.counter;
+      within = c.loop-test.true;
+      between = world_of c.loop.world;
+      before = c.loop.invariant.0;
+      part = c.in_err-calm_round.ensures.err;
+    } in
+    on_error c.from_residual.result part
 
 pub returns-then-not-branch-clause-rounds : goal.returns-then-not-branch-clause-rounds
 returns-then-not-branch-clause-rounds c =

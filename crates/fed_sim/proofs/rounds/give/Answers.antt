@@ -1,8 +1,9 @@
-use Rattle.std.proofs.Common.{refl, ◌∙◌}
+use Rattle.std.proofs.Common.{arith, refl, ◌∙◌}
 use Rattle.fed_sim.specs.Rounds.{GivesOne, never}
-use Rattle.fed_sim.specs.Steps.{in_it}
+use Rattle.fed_sim.specs.RoundsInPart.{GivesAllInPart}
+use Rattle.fed_sim.specs.WorldParts.{world_of}
 use Rattle.fed_sim.proofs.Servers.{on_error}
-use Rattle.fed_sim.proofs.CalmSteps.{times_reach, give_reach, one_time}
+use Rattle.fed_sim.proofs.CalmSteps.{one_time}
 use Rattle.fed_sim.proofs.rounds.give.Goals as goal
 
 pub loop-init : goal.loop-init
@@ -10,7 +11,15 @@ loop-init c = (never, refl)
 
 pub returns-in_err-apply_at-clause-err : goal.returns-in_err-apply_at-clause-err
 returns-in_err-apply_at-clause-err c =
-    on_error c.from_residual.result (in_it _ c.args.server c.args.place (times_reach (GivesOne c.args.server c.args.place) (give_reach c.args.server c.args.place) _ _ _ c.loop.invariant.0) c.in_err-apply_at.ensures.err)
+    let old = world_of c.args.world.now in
+    let part : GivesAllInPart c.args.server c.args.place old (world_of c.apply_at.new.self) = record {
+      done = c.loop.counter;
+      within = omega (arith, c.loop-test.true, c.queued_at-waiting.ensures);
+      between = world_of c.loop.world;
+      before = c.loop.invariant.0;
+      part = c.in_err-apply_at.ensures.err;
+    } in
+    on_error c.from_residual.result part
 
 pub loop-preserved : goal.loop-preserved
 loop-preserved c =

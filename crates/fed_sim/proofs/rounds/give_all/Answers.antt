@@ -1,9 +1,9 @@
-use Rattle.std.proofs.Common.{refl, ◌∙◌, subst}
+use Rattle.std.proofs.Common.{arith, length, refl, ◌∙◌, subst}
 use Rattle.fed_sim.specs.Rounds.{GivesRooms, for_none}
+use Rattle.fed_sim.specs.RoundsInPart.{ForEachInPart, GivesRoomsInPart}
 use Rattle.fed_sim.specs.WorldParts.{world_of}
 use Rattle.fed_sim.proofs.Servers.{on_error}
-use Rattle.fed_sim.proofs.CalmSteps.{each_reach, rooms_reach, one_place, idle_still}
-use Rattle.fed_sim.proofs.Reaching.{in_part_then}
+use Rattle.fed_sim.proofs.CalmSteps.{one_place, idle_still}
 use Rattle.fed_sim.proofs.rounds.give_all.Goals as goal
 
 pub loop-place-init : goal.loop-place-init
@@ -11,7 +11,15 @@ loop-place-init c = (for_none, λ _. refl, refl)
 
 pub returns-in_err-is_busy-clause-err : goal.returns-in_err-is_busy-clause-err
 returns-in_err-is_busy-clause-err c =
-    on_error c.from_residual.result (in_part_then _ _ _ (each_reach GivesRooms rooms_reach _ _ _ c.loop-place.invariant.0) c.in_err-is_busy.ensures.err)
+    let old = world_of c.args.world.now in
+    let part : ForEachInPart GivesRooms GivesRoomsInPart old (length old.names) (world_of c.give_rooms.new.world) = record {
+      place = c.loop-place.place;
+      within = omega (arith, c.loop-place-test.true, c.len-place-end.ensures.len);
+      between = world_of c.loop-place.world;
+      before = c.loop-place.invariant.0;
+      part = subst (λ k. GivesRoomsInPart k (world_of c.loop-place.world) (world_of c.give_rooms.new.world)) c.new.ensures c.in_err-is_busy.ensures.err;
+    } in
+    on_error c.from_residual.result part
 
 pub loop-place-preserved : goal.loop-place-preserved
 loop-place-preserved c = (

@@ -1,8 +1,10 @@
-use Rattle.std.proofs.Common.{refl, ◌∙◌}
+use Rattle.std.proofs.Common.{arith, string_bytes, refl, ◌∙◌}
+use Rattle.std.proofs.lemmas.List.{length-map}
 use Rattle.fed_sim.specs.Rounds.{GivesAll, for_none}
+use Rattle.fed_sim.specs.RoundsInPart.{GivesRoomsInPart}
+use Rattle.fed_sim.specs.WorldParts.{world_of}
 use Rattle.fed_sim.proofs.Servers.{on_error}
-use Rattle.fed_sim.proofs.CalmSteps.{each_reach, gives_reach, one_place, idle_still}
-use Rattle.fed_sim.proofs.Reaching.{in_part_then}
+use Rattle.fed_sim.proofs.CalmSteps.{one_place, idle_still}
 use Rattle.fed_sim.proofs.rounds.give_rooms.Goals as goal
 
 pub loop-place-init : goal.loop-place-init
@@ -10,7 +12,15 @@ loop-place-init c = (for_none, λ _. refl, refl)
 
 pub returns-in_err-is_busy-clause-err : goal.returns-in_err-is_busy-clause-err
 returns-in_err-is_busy-clause-err c =
-    on_error c.from_residual.result (in_part_then _ _ _ (each_reach (GivesAll c.args.server) (gives_reach c.args.server) _ _ _ c.loop-place.invariant.0) c.in_err-is_busy.ensures.err)
+    let old = world_of c.args.world.now in
+    let part : GivesRoomsInPart c.args.server old (world_of c.give.new.world) = record {
+      place = c.loop-place.place;
+      within = let all = length-map c.args.world.now.known.items string_bytes in omega (arith, c.loop-place-test.true, all, c.args.world.now.known.ok.0);
+      between = world_of c.loop-place.world;
+      before = c.loop-place.invariant.0;
+      part = c.in_err-is_busy.ensures.err;
+    } in
+    on_error c.from_residual.result part
 
 pub loop-place-preserved : goal.loop-place-preserved
 loop-place-preserved c = (

@@ -1,11 +1,10 @@
-use Rattle.std.proofs.Common.{List, [], map, string_bytes, String, Global, ap, ◌∙◌, subst}
+use Rattle.std.proofs.Common.{List, map, string_bytes, String, Global, ap, ◌∙◌, subst}
 use Rattle.std.specs.List.Sorted.{IsPermutation}
 use Rattle.std.proofs.lemmas.Result.{err_from_is_err_and}
 use Rattle.fed_sim.specs.declared.setup.RoomSetup.{RoomSetup}
-use Rattle.fed_sim.specs.Running.{Begins, IsBeginning, HasNoStart, no_start}
-use Rattle.fed_sim.specs.Steps.{begun}
+use Rattle.fed_sim.specs.Running.{Begins, IsBeginning, HasNoStart, no_start, begins_run}
 use Rattle.fed_sim.specs.WorldFields.{world_with}
-use Rattle.fed_sim.proofs.Starting.{begins_so}
+use Rattle.fed_sim.proofs.Starts.{begins_so}
 use Rattle.fed_sim.proofs.Worlds.{seen_of}
 use Rattle.fed_sim.proofs.running.begin.Goals as goal
 
@@ -19,7 +18,7 @@ invariant_of-result-clause-comes c =
     (λ k s here. subst (λ (rooms : List RoomSetup). IsBeginning names (map string_bytes ids) rooms k (seen_of s)) c.deref-4.ensures.value
     (subst (λ (ks : List (String Global)). IsBeginning names (map string_bytes ks) c.deref-4.result.now k (seen_of s)) c.deref-3.ensures.value (c.in_ok-servers.ensures.each k s here)))
     c.new.ensures.items in
-    ∣ record { setup = c.args.setup.now; steps = []; replies = []; ran = record { begin = _; begins = begins; ran = begun } } ∣₁
+    ∣ begins_run c.args.setup.now _ begins ∣₁
 
 pub returns-clause-begins : goal.returns-clause-begins
 returns-clause-begins c =

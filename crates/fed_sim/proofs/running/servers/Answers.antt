@@ -2,14 +2,14 @@ use Rattle.std.proofs.Common.{arith, ◌≡◌, ℕ, Some, length, map, string_b
 use Rattle.std.specs.List.{slice_get}
 use Rattle.std.proofs.lemmas.List.{length-append}
 use Rattle.std.proofs.lemmas.Option.{none-some}
-use Rattle.fed_sim.specs.declared.setup.RoomSetup.{RoomSetup}
-use Rattle.fed_sim.specs.Hosted.{HostedState}
+use Rattle.std.proofs.lemmas.Result.{err_from_is_err_and}
 use Rattle.fed_sim.specs.NewServer.{IsNewServer}
 use Rattle.fed_sim.specs.declared.server.Server.{Server}
-use Rattle.fed_sim.specs.Running.{IsBeginning, IsBegun}
+use Rattle.fed_sim.specs.Running.{IsBeginning, HasNoStart}
+use Rattle.fed_sim.specs.Starts.{AreStarts}
 use Rattle.fed_sim.specs.ServerParts.{server_of}
 use Rattle.fed_sim.proofs.Built.{each_pushed}
-use Rattle.fed_sim.proofs.Starting.{is_beginning}
+use Rattle.fed_sim.proofs.Starts.{begun_with, none_accepted, is_beginning}
 use Rattle.fed_sim.proofs.running.servers.Goals as goal
 
 pub loop-place-init : goal.loop-place-init
@@ -19,15 +19,22 @@ pub loop-place-preserved : goal.loop-place-preserved
 loop-place-preserved c =
     let more = c.in_ok-push.ensures.items in
     let longer = ap length more ∙ length-append c.loop-place.servers.items _ in
-    let count = c.loop-place.invariant.0 in (
+    let count = c.loop-place.invariant.0 in
+    let names = c.args.list.now in
+    let known = map string_bytes c.args.known.now in
+    let rooms = c.args.rooms.now in
+    let starts = c.deref-in-loop-place.result.now in
+    let hosted = c.in_ok-hosted.hosted.items in
+    let place = c.new-own.ensures ∙ sym count in
+    let made : AreStarts names rooms starts =
+    subst (λ all. AreStarts all rooms starts) (c.deref.ensures.value ∙ c.in_ok-keys.ensures)
+    (subst (AreStarts c.deref.result.now rooms) (sym c.deref-in-loop-place.ensures.value) c.in_ok-starts.ensures.each) in (
       omega (arith, longer, count),
-      each_pushed (λ k (s : Server). IsBeginning c.args.list.now (map string_bytes c.args.known.now) c.args.rooms.now k (server_of s)) c.loop-place.servers.items c.push.new.self.items c.in_ok-new.field-0 more
-          c.loop-place.invariant.1
-          (is_beginning c.args.list.now (map string_bytes c.args.known.now) c.args.rooms.now (length c.loop-place.servers.items) (server_of c.in_ok-new.field-0) c.in_ok-hosted.hosted.items c.name.result.now c.in_ok-hosted.ensures.count
-          (subst (λ place. IsNewServer c.args.list.now (map string_bytes c.args.known.now) place c.in_ok-hosted.hosted.items (server_of c.in_ok-new.field-0)) (c.new-own.ensures ∙ sym count) c.in_ok-new.ensures)
-          (subst (λ place. slice_get c.args.list.now place ≡ Some c.name.result.now) (c.new-own.ensures ∙ sym count) c.name.ensures.text)
-          (subst (λ names. (k : ℕ) (h : HostedState) → slice_get c.in_ok-hosted.hosted.items k ≡ Some h → (setup : RoomSetup) → slice_get c.args.rooms.now k ≡ Some setup → IsBegun names c.name.result.now setup h)
-          (c.deref.ensures.value ∙ c.in_ok-keys.ensures) c.in_ok-hosted.ensures.each)),
+      each_pushed (λ k (s : Server). IsBeginning names known rooms k (server_of s)) c.loop-place.servers.items c.push.new.self.items c.in_ok-new.field-0 more c.loop-place.invariant.1
+          (is_beginning names known rooms (length c.loop-place.servers.items) (server_of c.in_ok-new.field-0) hosted c.name.result.now
+          (c.in_ok-hosted.ensures.count ∙ ap length c.deref-in-loop-place.ensures.value ∙ c.in_ok-starts.ensures.count)
+          (subst (λ k. IsNewServer names known k hosted (server_of c.in_ok-new.field-0)) place c.in_ok-new.ensures) (subst (λ k. slice_get names k ≡ Some c.name.result.now) place c.name.ensures.text)
+          (begun_with names c.name.result.now rooms starts hosted c.in_ok-hosted.ensures.count made c.in_ok-hosted.ensures.each)),
     )
 
 pub returns-clause-count : goal.returns-clause-count
@@ -35,3 +42,19 @@ returns-clause-count c = let count = c.loop-place.invariant.0 in let at = c.loop
 
 pub returns-clause-each : goal.returns-clause-each
 returns-clause-each c = c.loop-place.invariant.1
+
+pub returns-in_err-starts-clause-bad : goal.returns-in_err-starts-clause-bad
+returns-in_err-starts-clause-bad c =
+    let p = err_from_is_err_and c.from_residual-in_err-starts.result c.from_residual-in_err-starts.ensures.1 in
+    rw (p.1, p.2) (λ bad. subst (λ names. HasNoStart names c.args.rooms.now) (c.deref.ensures.value ∙ c.in_ok-keys.ensures) (c.in_err-starts.ensures.bad bad))
+
+pub returns-in_err-hosted-clause-bad : goal.returns-in_err-hosted-clause-bad
+returns-in_err-hosted-clause-bad c =
+    let p = err_from_is_err_and c.from_residual-in_err-hosted.result c.from_residual-in_err-hosted.ensures.1 in
+    let names = c.args.list.now in
+    let rooms = c.args.rooms.now in
+    let starts = c.deref-in-loop-place.result.now in
+    let made : AreStarts names rooms starts =
+    subst (λ all. AreStarts all rooms starts) (c.deref.ensures.value ∙ c.in_ok-keys.ensures)
+    (subst (AreStarts c.deref.result.now rooms) (sym c.deref-in-loop-place.ensures.value) c.in_ok-starts.ensures.each) in
+    rw (p.1, p.2) (λ bad. none_accepted names rooms starts (ap length c.deref-in-loop-place.ensures.value ∙ c.in_ok-starts.ensures.count) made (c.in_err-hosted.ensures.bad bad))

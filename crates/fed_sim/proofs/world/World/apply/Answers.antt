@@ -1,6 +1,6 @@
 use Rattle.std.proofs.Common.{map, string_bytes, subst}
 use Rattle.std.proofs.lemmas.Result.{IfOk-weaker, on_err_weaker}
-use Rattle.fed_sim.specs.Arriving.{IsGivenTo, IsGivenInPart}
+use Rattle.fed_sim.specs.Applying.{IsGivenTo, IsGivenInPart}
 use Rattle.fed_sim.specs.ServerParts.{server_of}
 use Rattle.fed_sim.specs.WorldParts.{world_of}
 use Rattle.fed_sim.proofs.OfRuns.{comes_given, comes_given_in_part}

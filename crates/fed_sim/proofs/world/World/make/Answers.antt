@@ -1,7 +1,7 @@
 use Rattle.std.proofs.Common.{IfOk, sym, subst}
 use Rattle.fed_sim.specs.declared.step.Step.{Step}
 use Rattle.fed_sim.specs.Steps.{Does}
-use Rattle.fed_sim.specs.Arriving.{IsGivenTo}
+use Rattle.fed_sim.specs.Applying.{IsGivenTo}
 use Rattle.fed_sim.specs.World.{AtServer}
 use Rattle.fed_sim.specs.WorldParts.{world_of}
 use Rattle.fed_sim.proofs.world.World.make.Goals as goal

@@ -10,7 +10,7 @@ use Rattle.fed_sim.specs.Hosted.{HostedState}
 use Rattle.fed_sim.specs.Packets.{IsTaken, with_packet, no_request, no_text, no_receiver, taken}
 use Rattle.fed_sim.specs.ServerParts.{server_of}
 use Rattle.fed_sim.specs.Steps as steps
-use Rattle.fed_sim.specs.Taking.{IsReceived}
+use Rattle.fed_sim.specs.Taking.{IsTakeAt}
 use Rattle.fed_sim.specs.WorldParts.{world_of, packet_of}
 use Rattle.fed_sim.specs.World.{answer, with_server}
 use Rattle.fed_sim.proofs.OfRuns.{comes_moved, comes_same}
@@ -44,15 +44,15 @@ returns-in_default-get_mut-clause-taken c =
     same_told (IsTaken c.args.packet w) _ _ _ _ refl (ap (packets_at w) (sym kept))
     (no_receiver c.in-Request.server c.in-Request.dest c.in-Request.number c.in-Request.bytes.items here (not_there w c.args.self.now.servers c.in-Request.dest c.place.result c.place.ensures.place c.get_mut.result c.get_mut.ensures.variant c.in_default-get_mut.is))
 
-pub receive-requires-clause-known : goal.receive-requires-clause-known
-receive-requires-clause-known c =
+pub take-requires-clause-known : goal.take-requires-clause-known
+take-requires-clause-known c =
     let w = world_of c.args.self.now in
     sym (length-map c.in-Some-get_mut.receiver.now.rooms.items (λ (h : HostedState). room_of h.room))
     ∙ rooms_count w c.args.self.now.comes c.in-Request.dest (server_of c.in-Some-get_mut.receiver.now) (server_is w c.args.self.now.servers c.in-Request.dest c.place.result c.place.ensures.place c.get_mut.result c.get_mut.ensures.variant c.in-Some-get_mut.receiver.now c.in-Some-get_mut.receiver.now c.in-Some-get_mut.receiver c.in-Some-get_mut.is c.in-Some-get_mut.ensures.value)
     ∙ length-map c.args.self.now.known.items string_bytes ∙ ap length (sym c.deref-2.ensures.value)
 
-pub receive-requires-clause-inbox : goal.receive-requires-clause-inbox
-receive-requires-clause-inbox c =
+pub take-requires-clause-inbox : goal.take-requires-clause-inbox
+take-requires-clause-inbox c =
     let w = world_of c.args.self.now in
     inbox_rooms w c.args.self.now.comes c.in-Request.dest (server_of c.in-Some-get_mut.receiver.now) (server_is w c.args.self.now.servers c.in-Request.dest c.place.result c.place.ensures.place c.get_mut.result c.get_mut.ensures.variant c.in-Some-get_mut.receiver.now c.in-Some-get_mut.receiver.now c.in-Some-get_mut.receiver c.in-Some-get_mut.is c.in-Some-get_mut.ensures.value)
     ∙ ap (λ ids. room_set (map string_bytes ids)) (sym c.deref-2.ensures.value)
@@ -62,13 +62,13 @@ returns-in_err-reply-clause-err c =
     let w = world_of c.args.self.now in
     let kept = c.in_ok-reserve.ensures.items in
     on_error c.from_residual-in_err-reply.result
-    (same_servers (packets_at w c.reserve.new.self.items) c.args.self.now.servers c.in-Request.dest c.place.result c.place.ensures.place c.get_mut.result c.get_mut.ensures.variant c.in-Some-get_mut.receiver.now c.receive.new.self c.in-Some-get_mut.receiver c.in-Some-get_mut.is c.in-Some-get_mut.ensures.value c.in_err-reply.ensures.err ∙ ap (packets_at w) kept)
+    (same_servers (packets_at w c.reserve.new.self.items) c.args.self.now.servers c.in-Request.dest c.place.result c.place.ensures.place c.get_mut.result c.get_mut.ensures.variant c.in-Some-get_mut.receiver.now c.take.new.self c.in-Some-get_mut.receiver c.in-Some-get_mut.is c.in-Some-get_mut.ensures.value c.in_err-reply.ensures.err ∙ ap (packets_at w) kept)
 
 pub invariant_of-self-in-Break-branch-4 : goal.invariant_of-self-in-Break-branch-4
 invariant_of-self-in-Break-branch-4 c =
     let w = world_of c.args.self.now in
     let kept = c.in_ok-reserve.ensures.items in
-    record { within = c.args.self.now.within; comes = comes_same w _ (same_servers (packets_at w c.reserve.new.self.items) c.args.self.now.servers c.in-Request.dest c.place.result c.place.ensures.place c.get_mut.result c.get_mut.ensures.variant c.in-Some-get_mut.receiver.now c.receive.new.self c.in-Some-get_mut.receiver c.in-Some-get_mut.is c.in-Some-get_mut.ensures.value c.in_err-reply.ensures.err ∙ ap (packets_at w) kept) c.args.self.now.comes }
+    record { within = c.args.self.now.within; comes = comes_same w _ (same_servers (packets_at w c.reserve.new.self.items) c.args.self.now.servers c.in-Request.dest c.place.result c.place.ensures.place c.get_mut.result c.get_mut.ensures.variant c.in-Some-get_mut.receiver.now c.take.new.self c.in-Some-get_mut.receiver c.in-Some-get_mut.is c.in-Some-get_mut.ensures.value c.in_err-reply.ensures.err ∙ ap (packets_at w) kept) c.args.self.now.comes }
 
 pub invariant_of-self-2-clause-comes : goal.invariant_of-self-2-clause-comes
 invariant_of-self-2-clause-comes c =
@@ -79,17 +79,17 @@ invariant_of-self-2-clause-comes c =
     let items = c.reserve.new.self.items in
     let done : is_ok c.push.result ≡ true = c.push.ensures.succeeds (omega (arith, c.in_ok-reserve.ensures.ok)) in
     let more = c.push.ensures.items ∙ ap (λ (b : Bool). if b then items ++ sent ∷ [] else items) done in
-    comes_moved w (Answered (length w.packets + 1) c.in_ok-reply.reply.status) (packets_at (world_at w (set c.args.self.now.servers.items c.place.result c.receive.new.self)) c.push.new.self.items)
+    comes_moved w (Answered (length w.packets + 1) c.in_ok-reply.reply.status) (packets_at (world_at w (set c.args.self.now.servers.items c.place.result c.take.new.self)) c.push.new.self.items)
     (steps.taken c.args.packet (same_told (IsTaken c.args.packet w) _ _ _ _ refl
-    (ap (λ ps. with_packet (with_server (packets_at w ps) c.in-Request.dest (server_of c.receive.new.self)) (answer c.in-Request.server c.in-Request.dest c.in-Request.number c.in_ok-reply.reply)) (sym kept)
-    ∙ answered_then w c.args.self.now.servers.items (set c.args.self.now.servers.items c.place.result c.receive.new.self) c.in-Request.dest c.receive.new.self
-    (afterwards w c.args.self.now.servers c.in-Request.dest c.place.result c.place.ensures.place c.get_mut.result c.get_mut.ensures.variant c.in-Some-get_mut.receiver.now c.receive.new.self c.in-Some-get_mut.receiver c.in-Some-get_mut.is c.in-Some-get_mut.ensures.value)
+    (ap (λ ps. with_packet (with_server (packets_at w ps) c.in-Request.dest (server_of c.take.new.self)) (answer c.in-Request.server c.in-Request.dest c.in-Request.number c.in_ok-reply.reply)) (sym kept)
+    ∙ answered_then w c.args.self.now.servers.items (set c.args.self.now.servers.items c.place.result c.take.new.self) c.in-Request.dest c.take.new.self
+    (afterwards w c.args.self.now.servers c.in-Request.dest c.place.result c.place.ensures.place c.get_mut.result c.get_mut.ensures.variant c.in-Some-get_mut.receiver.now c.take.new.self c.in-Some-get_mut.receiver c.in-Some-get_mut.is c.in-Some-get_mut.ensures.value)
     c.reserve.new.self.items c.push.new.self.items (packet.Answer c.in-Request.server c.in-Request.dest c.in-Request.number c.in_ok-reply.reply)
     (answer c.in-Request.server c.in-Request.dest c.in-Request.number c.in_ok-reply.reply) more refl)
-    (taken c.in-Request.server c.in-Request.dest c.in-Request.number c.in-Request.bytes.items c.in-Some.request (server_of c.in-Some-get_mut.receiver.now) (server_of c.receive.new.self) c.in_ok-reply.reply here
+    (taken c.in-Request.server c.in-Request.dest c.in-Request.number c.in-Request.bytes.items c.in-Some.request (server_of c.in-Some-get_mut.receiver.now) (server_of c.take.new.self) c.in_ok-reply.reply here
     (subst (λ bytes. IsRequestIn bytes c.in-Some.request) c.deref.ensures.value (one_read _ c.in_ok-request.field-0 c.in-Some.request c.in-Some.is c.in_ok-request.ensures.found))
-    (server_is w c.args.self.now.servers c.in-Request.dest c.place.result c.place.ensures.place c.get_mut.result c.get_mut.ensures.variant c.in-Some-get_mut.receiver.now c.receive.new.self c.in-Some-get_mut.receiver c.in-Some-get_mut.is c.in-Some-get_mut.ensures.value)
-    (subst (λ ids. IsReceived (map string_bytes ids) c.in-Some.request (server_of c.in-Some-get_mut.receiver.now) c.in_ok-reply.reply (server_of c.receive.new.self)) c.deref-2.ensures.value c.in_ok-reply.ensures.received)))) c.args.self.now.comes
+    (server_is w c.args.self.now.servers c.in-Request.dest c.place.result c.place.ensures.place c.get_mut.result c.get_mut.ensures.variant c.in-Some-get_mut.receiver.now c.take.new.self c.in-Some-get_mut.receiver c.in-Some-get_mut.is c.in-Some-get_mut.ensures.value)
+    (subst (λ ids. IsTakeAt (map string_bytes ids) c.in-Some.request (server_of c.in-Some-get_mut.receiver.now) c.in_ok-reply.reply (server_of c.take.new.self)) c.deref-2.ensures.value c.in_ok-reply.ensures.taken)))) c.args.self.now.comes
 
 pub returns-clause-taken : goal.returns-clause-taken
 returns-clause-taken c =
@@ -104,12 +104,12 @@ returns-clause-taken c =
     let size = c.args.self.now.packets.ok.0 in
     let number : length w.packets + 1 ≡ c.len-packet.result = omega (arith, all, size, c.len-packet.ensures, longer, held, room) in
     same_told (IsTaken c.args.packet w) _ _ _ _ (λ i. Answered (number i) (sym c.status-status.ensures i))
-    (ap (λ ps. with_packet (with_server (packets_at w ps) c.in-Request.dest (server_of c.receive.new.self)) (answer c.in-Request.server c.in-Request.dest c.in-Request.number c.in_ok-reply.reply)) (sym kept)
-    ∙ answered_then w c.args.self.now.servers.items (set c.args.self.now.servers.items c.place.result c.receive.new.self) c.in-Request.dest c.receive.new.self
-    (afterwards w c.args.self.now.servers c.in-Request.dest c.place.result c.place.ensures.place c.get_mut.result c.get_mut.ensures.variant c.in-Some-get_mut.receiver.now c.receive.new.self c.in-Some-get_mut.receiver c.in-Some-get_mut.is c.in-Some-get_mut.ensures.value)
+    (ap (λ ps. with_packet (with_server (packets_at w ps) c.in-Request.dest (server_of c.take.new.self)) (answer c.in-Request.server c.in-Request.dest c.in-Request.number c.in_ok-reply.reply)) (sym kept)
+    ∙ answered_then w c.args.self.now.servers.items (set c.args.self.now.servers.items c.place.result c.take.new.self) c.in-Request.dest c.take.new.self
+    (afterwards w c.args.self.now.servers c.in-Request.dest c.place.result c.place.ensures.place c.get_mut.result c.get_mut.ensures.variant c.in-Some-get_mut.receiver.now c.take.new.self c.in-Some-get_mut.receiver c.in-Some-get_mut.is c.in-Some-get_mut.ensures.value)
     c.reserve.new.self.items c.push.new.self.items (packet.Answer c.in-Request.server c.in-Request.dest c.in-Request.number c.in_ok-reply.reply)
     (answer c.in-Request.server c.in-Request.dest c.in-Request.number c.in_ok-reply.reply) more refl)
-    (taken c.in-Request.server c.in-Request.dest c.in-Request.number c.in-Request.bytes.items c.in-Some.request (server_of c.in-Some-get_mut.receiver.now) (server_of c.receive.new.self) c.in_ok-reply.reply here
+    (taken c.in-Request.server c.in-Request.dest c.in-Request.number c.in-Request.bytes.items c.in-Some.request (server_of c.in-Some-get_mut.receiver.now) (server_of c.take.new.self) c.in_ok-reply.reply here
     (subst (λ bytes. IsRequestIn bytes c.in-Some.request) c.deref.ensures.value (one_read _ c.in_ok-request.field-0 c.in-Some.request c.in-Some.is c.in_ok-request.ensures.found))
-    (server_is w c.args.self.now.servers c.in-Request.dest c.place.result c.place.ensures.place c.get_mut.result c.get_mut.ensures.variant c.in-Some-get_mut.receiver.now c.receive.new.self c.in-Some-get_mut.receiver c.in-Some-get_mut.is c.in-Some-get_mut.ensures.value)
-    (subst (λ ids. IsReceived (map string_bytes ids) c.in-Some.request (server_of c.in-Some-get_mut.receiver.now) c.in_ok-reply.reply (server_of c.receive.new.self)) c.deref-2.ensures.value c.in_ok-reply.ensures.received))
+    (server_is w c.args.self.now.servers c.in-Request.dest c.place.result c.place.ensures.place c.get_mut.result c.get_mut.ensures.variant c.in-Some-get_mut.receiver.now c.take.new.self c.in-Some-get_mut.receiver c.in-Some-get_mut.is c.in-Some-get_mut.ensures.value)
+    (subst (λ ids. IsTakeAt (map string_bytes ids) c.in-Some.request (server_of c.in-Some-get_mut.receiver.now) c.in_ok-reply.reply (server_of c.take.new.self)) c.deref-2.ensures.value c.in_ok-reply.ensures.taken))

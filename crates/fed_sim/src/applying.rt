@@ -1,10 +1,10 @@
 // What is taken for a room gets into it.
 ghost use Rattle.std.specs.Prelude.{OnErr, IfOk, map, string_bytes};
-ghost use Rattle.fed_sim.specs.Arriving.{IsArrived, IsArrivedInPart, IsGivenTo, IsGivenInPart};
+ghost use Rattle.fed_sim.specs.Applying.{IsAppliedAt, IsAppliedInPart, IsGivenTo, IsGivenInPart};
 
 use crate::outcome::Outcome;
-use crate::receiving::place_of;
 use crate::server::Server;
+use crate::taking::place_of;
 use fed_json::NoMemory;
 use fed_room_contract::Applied;
 use std::alloc::Global;
@@ -31,8 +31,8 @@ impl Server {
     /// The first event in front of the room at this place is given to it. Nothing changes where memory runs out, but that the room may have
     /// received the event and stored some that waited.
     pub(crate) fn apply_at(&mut self, alloc: Global, place: usize) -> Result<Outcome, NoMemory>
-        ensures arrived { IfOk result (λ outcome. IsArrived place (server_of self.old) outcome (server_of self.new)) }
-        ensures err { OnErr result (IsArrivedInPart place (server_of self.old) (server_of self.new)) }
+        ensures applied { IfOk result (λ outcome. IsAppliedAt place (server_of self.old) outcome (server_of self.new)) }
+        ensures err { OnErr result (IsAppliedInPart place (server_of self.old) (server_of self.new)) }
     {
         let Some(hosted) = self.rooms.get_mut(place) else {
             return Ok(Outcome::NothingApplied);

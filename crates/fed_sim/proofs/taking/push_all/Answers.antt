@@ -10,7 +10,7 @@ use Rattle.fed_inbox.specs.Queues.{queues_from}
 use Rattle.fed_sim.proofs.WayQueues.{same_seen, none_left, set_all}
 use Rattle.fed_sim.proofs.Servers.{place_named}
 use Rattle.fed_sim.proofs.Arrivals.{nothing_arrives, arrives_here}
-use Rattle.fed_sim.proofs.receiving.push_all.Goals as goal
+use Rattle.fed_sim.proofs.taking.push_all.Goals as goal
 
 pub loop-event-init : goal.loop-event-init
 loop-event-init c =

@@ -3,7 +3,7 @@ ghost use Rattle.std.specs.Prelude.{◌≡◌, ◌<◌, All, OnOk, OnErr, IfOk, 
 ghost use Rattle.fed_sim.specs.Hosted.{rooms_of, arrivals_of};
 ghost use Rattle.fed_inbox.specs.Queues.{queues_after};
 ghost use Rattle.fed_inbox.specs.Rooms.{room_set};
-ghost use Rattle.fed_sim.specs.Taking.{HasRoom, IsOfKnown, IsReceived};
+ghost use Rattle.fed_sim.specs.Taking.{HasRoom, IsOfKnown, IsTakeAt};
 
 use crate::hosted::Hosted;
 use crate::server::Server;
@@ -19,7 +19,7 @@ impl Server {
 
     /// A request reaches the server: the reply of its inbox. What the inbox has taken for the rooms then waits in front of them. Nothing
     /// changes where memory for that runs out.
-    pub(crate) fn receive(
+    pub(crate) fn take(
         &mut self,
         alloc: Global,
         known: &[String],
@@ -27,7 +27,7 @@ impl Server {
     ) -> Result<Reply, NoMemory>
         requires known { length self.old.rooms.items ≡ length known.now }
         requires inbox { self.old.inbox.state.rooms ≡ room_set (map string_bytes known.now) }
-        ensures received { IfOk result (λ reply. IsReceived (map string_bytes known.now) request.now (server_of self.old) reply (server_of self.new)) }
+        ensures taken { IfOk result (λ reply. IsTakeAt (map string_bytes known.now) request.now (server_of self.old) reply (server_of self.new)) }
         ensures err { OnErr result (server_of self.new ≡ server_of self.old) }
     {
         make_room(&mut self.rooms)?;

@@ -1,7 +1,7 @@
 use Rattle.std.proofs.Common.{◌≡◌, ◌<◌, ◌≤◌, ℕ, Some}
 use Rattle.std.specs.List.{slice_get}
 use Rattle.fed_sim.specs.Hosted.{HostedState, rooms_of, arrivals_of}
-use Rattle.fed_sim.proofs.receiving.make_room.Given as goal
+use Rattle.fed_sim.proofs.taking.make_room.Given as goal
 
 -- the rooms that were passed have the room for events, and hold what they held
 abbrev pub invariant-loop-hosted : goal.invariant-loop-hosted

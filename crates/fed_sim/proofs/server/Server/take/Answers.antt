@@ -11,7 +11,7 @@ use Rattle.fed_inbox.specs.Queues.{queues_from}
 use Rattle.fed_sim.specs.ServerParts.{server_of}
 use Rattle.fed_sim.specs.Taking.{IsOfKnown}
 use Rattle.fed_sim.proofs.Fresh.{few_fresh, of_known}
-use Rattle.fed_sim.proofs.server.Server.receive.Goals as goal
+use Rattle.fed_sim.proofs.server.Server.take.Goals as goal
 
 pub push_all-requires-clause-room : goal.push_all-requires-clause-room
 push_all-requires-clause-room c = λ k room here.
@@ -38,8 +38,8 @@ push_all-requires-clause-events c =
     subst (All (IsOfKnown known)) (sym c.fresh-events.ensures.handed)
     (of_known _ _ _ _ _ _ known c.requires.inbox (c.what_a_new_inbox_knows.ensures.rooms finite.empty [] [] known) c.answer-reply.ensures.answered)
 
-pub returns-clause-received : goal.returns-clause-received
-returns-clause-received c =
+pub returns-clause-taken : goal.returns-clause-taken
+returns-clause-taken c =
     let old = server_of c.args.self.now in
     let known = map string_bytes c.args.known.now in
     let fresh = c.answer-reply.new.self.fresh in

@@ -28,24 +28,24 @@ pub record IsNext (place : ℕ) (s : ServerState) (room : RoomState) (event : Ch
   pub event_is : slice_get s.arrivals place ≡ Some (event ∷ later)
 
 -- What a server answers, and what it is then.
-pub data IsArrived (place : ℕ) (old : ServerState) : Outcome → ServerState → Type 0 where
-  no_room : slice_get old.rooms place ≡ None → IsArrived place old outcome.NothingApplied old
-  nothing : slice_get old.arrivals place ≡ Some [] → IsArrived place old outcome.NothingApplied old
+pub data IsAppliedAt (place : ℕ) (old : ServerState) : Outcome → ServerState → Type 0 where
+  no_room : slice_get old.rooms place ≡ None → IsAppliedAt place old outcome.NothingApplied old
+  nothing : slice_get old.arrivals place ≡ Some [] → IsAppliedAt place old outcome.NothingApplied old
   arrived : (room after : RoomState) (event : CheckedEvent) (later : List CheckedEvent) (told : Applied) → IsNext place old room event later
-      → IsApplied room_rules room event told after → IsArrived place old (outcome.Applied told.receipt told.more) (with_room old place after later)
+      → IsApplied room_rules room event told after → IsAppliedAt place old (outcome.Applied told.receipt told.more) (with_room old place after later)
 
 -- What a server is when memory ran out: as it was, or the event came to the room, which has stored some of those that waited.
-pub data IsArrivedInPart (place : ℕ) (old : ServerState) : ServerState → Type 0 where
-  same : IsArrivedInPart place old old
+pub data IsAppliedInPart (place : ℕ) (old : ServerState) : ServerState → Type 0 where
+  same : IsAppliedInPart place old old
   in_part : (room after : RoomState) (event : CheckedEvent) (later : List CheckedEvent) → IsNext place old room event later
-      → IsStopped room_rules room event after → IsArrivedInPart place old (with_room old place after later)
+      → IsStopped room_rules room event after → IsAppliedInPart place old (with_room old place after later)
 
 -- The same, where the room is named by its id. `known` are the ids of the rooms.
 pub data IsGivenTo (known : List (List ℕ)) (id : List ℕ) (old : ServerState) : Outcome → ServerState → Type 0 where
   unknown_room : place_of known id ≡ None → IsGivenTo known id old outcome.NothingApplied old
-  known_room : (told : Outcome) (new : ServerState) (place : ℕ) → place_of known id ≡ Some place → IsArrived place old told new → IsGivenTo known id old told new
+  known_room : (told : Outcome) (new : ServerState) (place : ℕ) → place_of known id ≡ Some place → IsAppliedAt place old told new → IsGivenTo known id old told new
 
 pub record IsGivenInPart (known : List (List ℕ)) (id : List ℕ) (old new : ServerState) : Type 0 where
   pub place : ℕ
   pub place_is : place_of known id ≡ Some place
-  pub in_part : IsArrivedInPart place old new
+  pub in_part : IsAppliedInPart place old new

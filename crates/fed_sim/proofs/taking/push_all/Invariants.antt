@@ -2,7 +2,7 @@ use Rattle.std.proofs.Common.{◌≡◌, All, length, map, string_bytes}
 use Rattle.fed_sim.specs.Hosted.{rooms_of, arrivals_of}
 use Rattle.fed_inbox.specs.Queues.{queues_from}
 use Rattle.fed_sim.specs.Taking.{HasRoom, IsOfKnown}
-use Rattle.fed_sim.proofs.receiving.push_all.Given as goal
+use Rattle.fed_sim.proofs.taking.push_all.Given as goal
 
 -- there is room for the events that are left, each of a room here, and with them the rooms hold what they are to hold
 abbrev pub invariant-loop-event : goal.invariant-loop-event

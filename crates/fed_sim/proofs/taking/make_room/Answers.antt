@@ -3,7 +3,7 @@ use Rattle.std.proofs.lemmas.Option.{slice_get_within}
 use Rattle.fed_room.specs.Room.{RoomValue, room_of}
 use Rattle.fed_sim.specs.Hosted.{HostedState}
 use Rattle.fed_sim.proofs.WayQueues.{same_seen, set_all}
-use Rattle.fed_sim.proofs.receiving.make_room.Goals as goal
+use Rattle.fed_sim.proofs.taking.make_room.Goals as goal
 
 pub returns-in_err-make_room-clause-rooms : goal.returns-in_err-make_room-clause-rooms
 returns-in_err-make_room-clause-rooms c =
