@@ -4,3 +4,4 @@ pub mod Limit
 pub mod Reached
 pub mod Newlines
 mod Setups
+pub mod SimEnds

@@ -1,6 +1,6 @@
 -- The first line of what is left is what stands before the first newline.
 use Rattle.std.proofs.Common.{rules, get_or, ◌≡◌, ℕ, suc, List, [], ◌∷◌, ◌++◌, ◌+◌, ◌-◌, ◌<◌, ◌≤◌, min, Option, None, Some, IfSome, is_some, is_none, Ok, Bool, true, false, true≢false, cond, not, ◌||◌, ◌==◌, nat_lt, ltb-true, ltb-false, position, length, take, drop, slice_range, length-take, length-drop, take_all, drop-drop, drop_of_length-le, one-add, append_assoc, append-nil, refl, sym, ap, ◌∙◌, arith}
-use Rattle.std.proofs.lemmas.List.{drop-take, drop_min}
+use Rattle.std.proofs.lemmas.List.{drop-take, drop_min, length-append}
 use Rattle.std.proofs.lemmas.List.Sums.{split_at_first}
 use Rattle.std.proofs.lemmas.List.Folds.{list_any-append}
 use Rattle.std.proofs.lemmas.List.Quantifiers.{position-Some}
@@ -175,3 +175,42 @@ taken_at_end E (Some bytes) (Some given) (x ∷ xs) true more_is plain end h =
     let none : rest ≡ [] = sym (some-injective given rest is_left) ∙ end in
     let whole : bytes ≡ x ∷ xs = is ∙ ap (λ l. (x ∷ xs) ++ l) none ∙ append-nil (x ∷ xs) in
     ([], ap Some end, ap lines_of whole ∙ line_last (x ∷ xs) plain (omega arith))
+
+-- ---- all that is left
+
+-- a text has grown by what was taken of the known bytes, and these are left
+abbrev pub Grows : Option (List ℕ) → Option (List ℕ) → List ℕ → List ℕ → Type 0
+Grows known left old new = IfSome known (λ bytes. (rest : List ℕ) × (left ≡ Some rest) × (new ++ rest ≡ old ++ bytes))
+
+pub grows_first : (known : Option (List ℕ)) (text : List ℕ) → Grows known known text text
+grows_first None text = tt
+grows_first (Some bytes) text = (bytes, refl, refl)
+
+-- all that was read goes to the text
+pub grows_more : (known reader : Option (List ℕ)) (old new ahead : List ℕ) → Grows known (prepend_known ahead reader) old new → Grows known (prepend_known [] reader) old (new ++ ahead)
+grows_more None reader old new ahead h = tt
+grows_more (Some bytes) None old new ahead h = absurd (none_is_not h.0 h.1)
+grows_more (Some bytes) (Some given) old new ahead h =
+    let (rest, left, is) = h in
+    let from : ahead ++ given ≡ rest = some-injective (ahead ++ given) rest left in
+    (given, refl, append_assoc new ahead given ∙ ap (λ l. new ++ l) from ∙ is)
+
+pub grows_on : (known left then : Option (List ℕ)) (old new : List ℕ) → Keeps left then → Grows known left old new → Grows known then old new
+grows_on None left then old new kept h = tt
+grows_on (Some bytes) None then old new kept h = absurd (none_is_not h.0 h.1)
+grows_on (Some bytes) (Some given) None old new kept h = absurd kept
+grows_on (Some bytes) (Some given) (Some more) old new kept h =
+    let (rest, is_left, is) = h in (rest, ap Some kept ∙ is_left, is)
+
+-- nothing is left
+pub grown_at_end : (known left : Option (List ℕ)) (old new : List ℕ) → IsAtEnd left → Grows known left old new → IfSome known (λ bytes. new ≡ old ++ bytes)
+grown_at_end None left old new end h = tt
+grown_at_end (Some bytes) None old new end h = absurd (none_is_not h.0 h.1)
+grown_at_end (Some bytes) (Some given) old new end h =
+    let (rest, is_left, is) = h in
+    let none : rest ≡ [] = sym (some-injective given rest is_left) ∙ end in
+    sym (append-nil new) ∙ ap (λ l. new ++ l) (sym none) ∙ is
+
+pub grown_within : (known : Option (List ℕ)) (old new : List ℕ) (room left : ℕ) → IfSome known (λ bytes. new ≡ old ++ bytes) → length new + left ≤ length old + room → IfSome known (λ bytes. length bytes ≤ room)
+grown_within None old new room left is within = tt
+grown_within (Some bytes) old new room left is within = let longer = ap length is ∙ length-append old bytes in omega (arith, longer, within)

@@ -8,3 +8,5 @@ pub mod Setup
 pub mod Servers
 pub mod Steps
 pub mod Input
+pub mod SimFaults
+pub mod SimEnd

@@ -4,7 +4,7 @@
 //! - `setup`: `InboxSetup`, whose inbox it is, and `SetupFault`, why texts make none
 //! - `words`: the parts of a line
 //! - `sim`: `sim_run`, a script in, what its commands answered out
-//! - `sim_lines`: the texts of what they answered
+//! - `sim_lines`: `Lines`, what they answered, a line each
 //! - `sim_fault`: how a run of a script ends early
 //! - `input`: the lines of a reader that may be asked so many times
 //! - `fault`: how a run ends early

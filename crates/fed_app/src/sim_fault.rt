@@ -1,5 +1,7 @@
 // How a run of a script ends early.
 ghost use Rattle.std.specs.Prelude.{◌≡◌};
+ghost use Rattle.std.specs.IoError.{error_kind};
+ghost use Rattle.fed_app.specs.SimFaults.{IsSimFaultOf, fault_of_script, fault_of_setup};
 ghost use Rattle.fed_app.specs.declared.sim_fault.SimRunFault.TheVariants.{Memory};
 
 use fed_json::NoMemory;
@@ -14,7 +16,7 @@ pub enum SimRunFault {
     /// Memory ran out.
     #[error("out of memory")]
     Memory,
-    /// A line, counted from 1, is wrong.
+    /// A line, counted from 1, is wrong; or line 1 has wrong words, since no world begins with what the script says.
     #[error("line {line}: {what}")]
     At { line: u64, what: ScriptError },
     /// A read or a write failed, or the input was read too often.
@@ -31,6 +33,8 @@ impl From<NoMemory> for SimRunFault {
 }
 
 impl From<io::Error> for SimRunFault {
+    ghost from_gives = { λ error fault. IsSimFaultOf (error_kind error) fault };
+
     fn from(error: io::Error) -> SimRunFault {
         match error.kind() {
             ErrorKind::OutOfMemory => SimRunFault::Memory,
@@ -40,6 +44,8 @@ impl From<io::Error> for SimRunFault {
 }
 
 impl From<ScriptFault> for SimRunFault {
+    ghost from_gives = { λ script fault. fault ≡ fault_of_script script };
+
     fn from(fault: ScriptFault) -> SimRunFault {
         match fault {
             ScriptFault::Memory => SimRunFault::Memory,
@@ -48,8 +54,10 @@ impl From<ScriptFault> for SimRunFault {
     }
 }
 
-// A script that is read makes no bad setup.
+// No world begins with what a script says.
 impl From<SimFault> for SimRunFault {
+    ghost from_gives = { λ setup fault. fault ≡ fault_of_setup setup };
+
     fn from(fault: SimFault) -> SimRunFault {
         match fault {
             SimFault::Memory => SimRunFault::Memory,

@@ -1,13 +1,61 @@
-// The texts of what steps of a world answer.
+// The lines of what commands of a script answer.
 use fed_dest::{ServerName, ServerSet};
+use fed_http::write_whole;
 use fed_journal::EduFault;
 use fed_json::NoMemory;
 use fed_outbox::Settlement;
 use fed_room_contract::{Receipt, Refusal, Verdict};
-use fed_sim::{Collected, EduRefusal, Outcome, SendRefusal};
+use fed_sim::{Collected, EduRefusal, Listener, Outcome, SendRefusal};
+use std::alloc::Global;
+use std::io;
+use std::io::Write;
 
-/// Appends the text of an outcome. The names of the servers stand in the order of their places.
-pub(crate) fn append_outcome(
+/// Writes lines, each of which is flushed before the next one.
+#[derive(Drop)]
+pub(crate) struct Lines<'a, W> {
+    writer: &'a mut W,
+    line: String,
+}
+
+impl<'a, W: Write> Lines<'a, W> {
+    pub(crate) fn new(alloc: Global, writer: &'a mut W) -> Lines<'a, W> {
+        Lines {
+            writer,
+            line: String::new(alloc),
+        }
+    }
+
+    /// Writes the lines of so many commands that tell what a world begins with.
+    pub(crate) fn write_oks(&mut self, count: usize) -> io::Result<()> {
+        for _ in 0..count {
+            self.line.clear();
+            self.line.push_str("ok")?;
+            self.write_line()?;
+        }
+        Ok(())
+    }
+
+    // Writes the line that is made.
+    fn write_line(&mut self) -> io::Result<()> {
+        self.line.push('\n')?;
+        write_whole(self.writer, self.line.as_bytes())?;
+        self.writer.flush()
+    }
+}
+
+/// Each step has a line.
+impl<W: Write> Listener for Lines<'_, W> {
+    type Fault = io::Error;
+
+    fn tell(&mut self, names: &[ServerName], outcome: &Outcome) -> io::Result<()> {
+        self.line.clear();
+        append_outcome(&mut self.line, outcome, names)?;
+        self.write_line()
+    }
+}
+
+// Appends the text of an outcome. The names of the servers stand in the order of their places.
+fn append_outcome(
     out: &mut String,
     outcome: &Outcome,
     names: &[ServerName],

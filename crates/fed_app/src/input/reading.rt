@@ -1,5 +1,5 @@
 // The lines of an input.
-ghost use Rattle.std.specs.Prelude.{◌≡◌, ◌++◌, ◌+◌, ◌<◌, ◌≤◌, ◌*◌, length, position, is_some, true, false, OnOk, IfOk, IfSome};
+ghost use Rattle.std.specs.Prelude.{◌≡◌, [], ◌++◌, ◌+◌, ◌<◌, ◌≤◌, ◌*◌, length, position, is_some, true, false, OnOk, IfOk, IfSome};
 ghost use Rattle.std.specs.List.{before_first, after_first};
 ghost use Rattle.std.specs.Io.KnownBytes.{Keeps, IsAtEnd};
 ghost use Rattle.fed_app.specs.Input.{is_newline, ahead_of, left_of, room_of, Spends};
@@ -48,6 +48,32 @@ impl<R: Read> Input<R> {
             }
         }
         Ok(true)
+    }
+
+    /// Reads all that is left, and puts it behind what the text holds.
+    pub(crate) fn read_rest(&mut self, text: &mut Vec<u8>) -> io::Result<()>
+        ensures text { OnOk result (IfSome (left_of R.remaining self.old) (λ bytes. text.new.items ≡ text.old.items ++ bytes)) }
+        ensures limit { OnOk result (IfSome (left_of R.remaining self.old) (λ bytes. length bytes ≤ room_of self.old)) }
+    {
+        self.take_all(text)?;
+        while self.refill()? {
+            self.take_all(text)?;
+        }
+        Ok(())
+    }
+
+    // Takes all that was read.
+    fn take_all(&mut self, text: &mut Vec<u8>) -> Result<(), NoMemory>
+        ensures text { OnOk result (text.new.items ≡ text.old.items ++ ahead_of self.old) }
+        ensures rest { OnOk result (ahead_of self.new ≡ []) }
+        ensures reader { self.new.reader ≡ self.old.reader }
+        ensures reads { self.new.reads ≡ self.old.reads }
+        ensures room { OnOk result (length text.new.items + room_of self.new ≤ length text.old.items + room_of self.old) }
+        ensures empty { OnOk result (self.new.start ≡ self.new.end) }
+    {
+        text.extend_from_slice(&self.buffer[self.start..self.end])?;
+        self.start = self.end;
+        Ok(())
     }
 
     // Takes what was read up to a newline, which is dropped, or all of it. Tells whether there was a newline.
