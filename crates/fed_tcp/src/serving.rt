@@ -14,7 +14,7 @@ use std::net::{Shutdown, SocketAddr, TcpStream};
 use std::sync::{Arc, Wait};
 use std::time::Clock;
 
-/// For how many seconds a client may still send what nobody reads, and in how many pieces of how many bytes at most that is thrown away.
+/// For how many seconds a client that was answered may still send, and in how many pieces of how many bytes at most that is thrown away.
 const LINGER: u64 = 1;
 
 const PIECES: usize = 256;
@@ -26,6 +26,8 @@ const PIECE: usize = 4096;
 ///
 /// A request has `within` seconds, from when its connection was accepted to the last byte of its reply: then nothing more is read or written,
 /// however slowly the client sends or reads. How long the hub takes isn't bounded; what it took stays taken, and its reply is kept for a repeat.
+/// Behind the reply the connection is ended for the client, and what this one still sends is thrown away until it ends it too: for a second at
+/// most, and at most 1,048,576 bytes.
 ///
 /// # Errors
 ///
@@ -135,7 +137,7 @@ fn answer<N: Naming + ServingNaming, K: Keys + Drop, R: Wait + Clock + Copy>(
         deadline,
     };
     let served = answer_over(rt, alloc, hub, token, reader, writer);
-    if matches!(served, Served::Answered(400 | 413 | 500)) {
+    if matches!(served, Served::Answered(_)) {
         linger(rt, &socket);
     }
     Some(served)
@@ -155,8 +157,8 @@ fn answer_over<N: Naming + ServingNaming, K: Keys + Drop, R: Wait + Clock + Copy
     hub.serve_one(rt, alloc, token, &mut reader, &mut writer)
 }
 
-// Waits for a client to end its side, where its request may not have been read to its end: the reply could be lost else (RFC 9112, section
-// 9.6).
+// Waits for a client that was answered to end its side. It may have sent more than was read: were the connection closed with that unread, its reply
+// could be lost (RFC 9112, section 9.6).
 fn linger<R: Clock>(rt: &R, socket: &TcpStream) {
     if socket.shutdown(Shutdown::Write).is_err() {
         return;
