@@ -9,6 +9,7 @@ use fed_app::{InboxSetup, RunFault, SetupFault, SimRunFault, inbox_run, sim_run}
 use fed_loop::{Load, LoopFault, MAX_CLIENTS, MAX_EVENTS, loop_run};
 use std::alloc::{AllocError, AllocFailed, Global};
 use std::fmt::Display;
+use std::fs::File;
 use std::io;
 use std::net::{Net, TcpListener, TcpStream};
 use std::process::ExitCode;
@@ -39,8 +40,9 @@ Every signature that decodes is trusted: this shows an inbox and gives no securi
 
 // What a script has to hold.
 const SCRIPT: &str = "\
-Standard input has a command a line, with one space between its words. A line that begins with # is skipped.
-For each command a line is printed. A wrong line is told by its number, and then nothing is run.
+A script has a command a line, with one space between its words. A line that begins with # is skipped.
+The script is read to its end, and then a line is printed for each command when it is done. A wrong line is told by its number, and then
+nothing is run.
 
 First come the servers, then the rooms that stand on all of them, each with an id and its users:
 
@@ -117,6 +119,8 @@ enum Stop {
     Fault(RunFault),
     /// A script was not run.
     NotRun(SimRunFault),
+    /// The script of this name can't be opened.
+    NotOpened(String),
     /// The two servers did not run to their end.
     Ended(LoopFault),
 }
@@ -197,6 +201,7 @@ fn main(rt: HostRuntime) -> Result<ExitCode> {
         }
         Err(Stop::Fault(fault)) => end_by(&rt, fault),
         Err(Stop::NotRun(fault)) => end_by(&rt, fault),
+        Err(Stop::NotOpened(name)) => end_by(&rt, format_args!("cannot open {name}")),
         Err(Stop::Ended(fault)) => end_by(&rt, fault),
     }
 }
@@ -213,7 +218,7 @@ fn run(rt: &HostRuntime) -> Result<Option<Load>, Stop> {
     let words = words(rt)?;
     let matches = command(alloc)?.try_get_matches_from(words.as_slice())?;
     match matches.subcommand() {
-        Some(("sim", _)) => sim_run(alloc, rt.stdin(), &mut rt.stdout())?,
+        Some(("sim", words)) => run_script(rt, words)?,
         Some(("loop", words)) => return Ok(Some(load_of(words)?)),
         _ => {
             let setup = setup_of(alloc, &matches)?;
@@ -221,6 +226,21 @@ fn run(rt: &HostRuntime) -> Result<Option<Load>, Stop> {
         }
     }
     Ok(None)
+}
+
+// Runs the script of the file that is named, or that standard input has.
+fn run_script(rt: &HostRuntime, words: &ArgMatches<'_>) -> Result<(), Stop> {
+    let alloc = rt.alloc();
+    let Some(name) = words.get_str("file") else {
+        return Ok(sim_run(alloc, rt.stdin(), &mut rt.stdout())?);
+    };
+    match File::open(rt, name) {
+        Ok(file) => Ok(sim_run(alloc, file, &mut rt.stdout())?),
+        Err(error) if error.kind() == io::ErrorKind::OutOfMemory => {
+            Err(Stop::Fault(RunFault::Memory))
+        }
+        Err(_) => Err(Stop::NotOpened(String::from_str(alloc, name)?)),
+    }
 }
 
 // How much two servers are to do.
@@ -273,14 +293,18 @@ fn command<'a>(alloc: Global) -> Result<Command<'a>, AllocError> {
         .default_value(ROOM)
         .help("The room that it knows");
     let inbox = Command::new(alloc, "inbox")
-        .about("Answers lines of origin, transaction number and body")
+        .about("Answers the lines of standard input: origin, transaction number and body")
         .after_help(INPUT)
         .arg(name)?
         .arg(servers)?
         .arg(room)?;
+    let file = Arg::new(alloc, "file")
+        .value_name("FILE")
+        .help("The script; standard input where none is named");
     let sim = Command::new(alloc, "sim")
         .about("Simulates servers that send each other events, by a script")
-        .after_help(SCRIPT);
+        .after_help(SCRIPT)
+        .arg(file)?;
     Command::new(alloc, "fed")
         .about("The federation inbox of a Matrix server; with no words, `inbox` with its defaults")
         .after_help(INPUT)
