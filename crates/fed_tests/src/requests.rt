@@ -119,7 +119,7 @@ fn copies_of_requests_and_replies(rt: HostRuntime) -> Result<(), Fail> {
 }
 
 #[test]
-fn replies_to_faults_go_out_in_parts(rt: HostRuntime) -> Result<(), Fail> {
+fn replies_to_faults_go_out_whole(rt: HostRuntime) -> Result<(), Fail> {
     let alloc = rt.alloc();
     for (fault, bytes) in [
         (
