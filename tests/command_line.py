@@ -11,9 +11,12 @@ import pathlib
 import select
 import subprocess
 import sys
+import tempfile
 
 sys.dont_write_bytecode = True
 from memory.run import FED, event_of, text
+
+EXAMPLES = FED.parent.parent / "examples"
 
 INPUT = """\
 Standard input has a transaction a line: the origin, the transaction number and the body, with one space between.
@@ -24,8 +27,9 @@ Every signature that decodes is trusted: this shows an inbox and gives no securi
 """
 
 SCRIPT = """\
-Standard input has a command a line, with one space between its words. A line that begins with # is skipped.
-For each command a line is printed. A wrong line is told by its number, and then nothing is run.
+A script has a command a line, with one space between its words. A line that begins with # is skipped.
+The script is read to its end, and then a line is printed for each command when it is done. A wrong line is told by its number, and then
+nothing is run.
 
 First come the servers, then the rooms that stand on all of them, each with an id and its users:
 
@@ -86,7 +90,7 @@ The federation inbox of a Matrix server; with no words, `inbox` with its default
 Usage: fed [COMMAND]
 
 Commands:
-  inbox  Answers lines of origin, transaction number and body
+  inbox  Answers the lines of standard input: origin, transaction number and body
   sim    Simulates servers that send each other events, by a script
   loop   Runs two servers that send and serve over sockets
   help   Print this message or the help of the given subcommand(s)
@@ -98,7 +102,7 @@ Options:
 {INPUT}"""
 
 INBOX_HELP = f"""\
-Answers lines of origin, transaction number and body
+Answers the lines of standard input: origin, transaction number and body
 
 Usage: fed inbox [OPTIONS]
 
@@ -113,7 +117,10 @@ Options:
 SIM_HELP = f"""\
 Simulates servers that send each other events, by a script
 
-Usage: fed sim
+Usage: fed sim [FILE]
+
+Arguments:
+  [FILE]  The script; standard input where none is named
 
 Options:
   -h, --help  Print help
@@ -325,7 +332,7 @@ def cases():
         (["word"], "", "", refused("unrecognized subcommand 'word'", "Usage: fed [COMMAND]"), 2),
         (["--name", "c.example"], "", "", refused("unexpected argument '--name' found", "Usage: fed [COMMAND]"), 2),
         (["inbox", "word"], "", "", refused("unexpected argument 'word' found", "Usage: fed inbox [OPTIONS]"), 2),
-        (["sim", "word"], "", "", refused("unexpected argument 'word' found", "Usage: fed sim"), 2),
+        (["sim", "one", "two"], "", "", refused("unexpected argument 'two' found", "Usage: fed sim [FILE]"), 2),
         (["loop", "word"], "", "", refused("unexpected argument 'word' found", "Usage: fed loop [OPTIONS]"), 2),
         (["loop", "--events", "x"], "", "", refused("invalid value 'x' for '--events <N>': invalid digit found in string"), 2),
         out_of_range("events", "0", 1000),
@@ -365,6 +372,9 @@ def cases():
         scripted(REFUSED),
         scripted(TURNED),
         scripted(IN_LINE),
+        *((["sim", f"{EXAMPLES / name}.sim"], "frob\n", (EXAMPLES / f"{name}.out").read_text(), "", 0) for name in ("calm_rounds", "lost_answer")),
+        (["sim", "/no/such/script"], "servers a b\n", "", "fed: cannot open /no/such/script\n", 1),
+        (["sim", "/"], "servers a b\n", "", FAILED, 1),
         (["sim"], "\n# a comment\nservers a b\n\ntick 5", "ok\nnow 5\n", "", 0),
         (["sim"], "", "", "fed: line 1: wrong words\n", 1),
         (["sim"], "\n# a comment\ntick 1\n", "", "fed: line 3: wrong words\n", 1),
@@ -411,12 +421,25 @@ def answers_at_once(program):
     return b"".join(answers) == (FED / "stdout").read_bytes() and fed.returncode == 0
 
 
+def ends_with_its_reader(program):
+    """A script ends by the first line that nobody reads, and not by its own end."""
+    given = b"servers a b\n" + b"tick 1\n" * 100_000
+    with tempfile.TemporaryFile() as script:
+        script.write(given)
+        script.seek(0)
+        with subprocess.Popen(["fed", "sim"], executable=program, stdin=script, stdout=subprocess.PIPE, stderr=subprocess.PIPE) as fed:
+            first = [fed.stdout.readline(), fed.stdout.readline()]
+            fed.stdout.close()
+            told = fed.stderr.read().decode()
+    return (first, told, fed.returncode) == ([b"ok\n", b"now 1\n"], FAILED, 1)
+
+
 def main():
     program = pathlib.Path(sys.argv[1] if len(sys.argv) > 1 else FED / "out" / "fed").resolve()
     passed = [(f"fed {words}, given {given[:200]!r}", prints(program, words, given, *want)) for words, given, *want in cases()]
     passed += [(f"fed {words} > /dev/full", output_fails(program, words)) for words in (["--help"], ["--version"], [], ["sim"], ["loop"])]
     passed += [(f"fed {words} < /", input_fails(program, words)) for words in ([], ["sim"])]
-    passed += [("answers before the next line", answers_at_once(program))]
+    passed += [("answers before the next line", answers_at_once(program)), ("fed sim | head", ends_with_its_reader(program))]
     failed = [name for name, good in passed if not good]
     for name in failed:
         print(f"failed: {name}")

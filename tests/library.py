@@ -7,7 +7,7 @@ With --built it takes what c/build.sh left. It compares every line of the vector
 answers; the answers of whole buffers, of ones a byte short and of empty ones; what a refused call leaves; the auth events of an event; values in
 place of texts, and what the module refuses itself; texts with null bytes, and of 16 MB; eight threads at once; the numbers of wikzord.h with those
 of wikzord.py; what c/install.sh and pip install; the C example, where valgrind is on the machine under it too; each of its allocations refused in
-turn; and, where signedjson is installed, tests/receipt.py.
+turn; and, where matrix.org's packages are installed, tests/receipt.py and tests/interop.py.
 
 Prints `N passed, M failed`, and ends with status 1 where one failed.
 """
@@ -757,14 +757,25 @@ def try_install():
         check("a package without the library", (status, "there is no library" in error and "c/build.sh" in error), (1, True))
 
 
+def run_with(modules, script, wanted):
+    """A script beside this one, by a Python that has these modules: this one, or the system's, for which Debian packs them."""
+    for interpreter in (sys.executable, "/usr/bin/python3"):
+        if os.path.exists(interpreter) and not subprocess.run([interpreter, "-c", f"import {modules}"], capture_output=True).returncode:
+            done = subprocess.run([interpreter, ROOT / "tests" / script], capture_output=True, text=True)
+            check(f"tests/{script}", (done.returncode, done.stdout.endswith(wanted), done.stderr), (0, True, ""))
+            print(f"tests/{script}: {done.stdout.strip()}")
+            return
+    print(f"no {modules} on this machine: tests/{script} was not run")
+
+
 def try_receipt():
     """The checks on receipt with signatures by signedjson."""
-    if subprocess.run([sys.executable, "-c", "import signedjson.sign"], capture_output=True).returncode:
-        print("no signedjson on this machine: tests/receipt.py was not run")
-        return
-    done = subprocess.run([sys.executable, ROOT / "tests" / "receipt.py"], capture_output=True, text=True)
-    check("tests/receipt.py", (done.returncode, done.stdout.endswith(" passed, 0 failed\n"), done.stderr), (0, True, ""))
-    print(f"tests/receipt.py: {done.stdout.strip()}")
+    run_with("signedjson.sign", "receipt.py", " passed, 0 failed\n")
+
+
+def try_interop():
+    """The library beside matrix.org's packages."""
+    run_with("canonicaljson, signedjson.sign, unpaddedbase64", "interop.py", "2000 cases, 0 differ\n")
 
 
 def try_refused_memory():
@@ -796,7 +807,8 @@ if not failed:
 
     parts = (
         try_vectors, try_buffers, try_numbers, try_rooms, try_values, try_refusals, try_null_bytes, try_large, try_many, try_threads, try_header,
-        try_loading, try_install, try_example, try_refused_memory, try_receipt)
+        try_loading, try_install, try_example, try_refused_memory, try_receipt,
+        try_interop)
     for part in parts:
         part()
 print(f"{passed} passed, {failed} failed")

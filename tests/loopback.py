@@ -190,6 +190,39 @@ def get(server, target):
     return server.ask(f"GET {target} HTTP/1.1\r\nHost: {OWN}\r\n\r\n".encode())
 
 
+def whole_reply(server, method, target):
+    """The bytes of the reply to a request without a body."""
+    with server.connect() as connection:
+        connection.sendall(f"{method} {target} HTTP/1.1\r\nHost: {OWN}\r\n\r\n".encode())
+        return rest_of(connection)
+
+
+def head_alone(server, target):
+    """The reply to a HEAD, and what it is to be: the head of the reply to a GET."""
+    head = whole_reply(server, "GET", target).split(b"\r\n\r\n")[0]
+    return whole_reply(server, "HEAD", target), head + b"\r\n\r\n"
+
+
+def first_pieces(server, target):
+    """What is read first of each of some replies to a GET: a reply that is written at once comes whole."""
+    pieces = []
+    for _ in range(5):
+        with server.connect() as connection:
+            connection.sendall(f"GET {target} HTTP/1.1\r\nHost: {OWN}\r\n\r\n".encode())
+            pieces.append(parsed(connection.recv(65_536)))
+    return pieces
+
+
+def with_more_behind(server, transaction):
+    """The reply to a request behind which more is sent than is read with it, or that the connection was broken before its end."""
+    with server.connect() as connection:
+        try:
+            connection.sendall(transaction.whole() + b"x" * 100_000)
+            return parsed(rest_of(connection))
+        except OSError as error:
+            return error
+
+
 def two_lengths(transaction):
     length = f"Content-Length: {len(transaction.body)}"
     return transaction.head(length, length) + transaction.body
@@ -300,6 +333,9 @@ def served(server):
         ("a body that is not the signed one", server.ask(fifth.whole().replace(b"message 5", b"message 6")), BAD_SIGNATURE),
         ("GET of the path", get(server, f"{PATH}test-1"), NO_METHOD),
         ("GET of another path", get(server, "/x"), NO_PATH),
+        ("HEAD of another path", *head_alone(server, "/x")),
+        ("HEAD of the path", *head_alone(server, f"{PATH}test-1")),
+        ("a reply in one piece", first_pieces(server, "/x"), [NO_PATH] * 5),
         ("garbage", server.ask(b"garbage\r\n\r\n"), BAD_REQUEST),
         ("bytes of no text", server.ask(bytes(range(256)) * 8), BAD_REQUEST),
         ("a head of 20 kB", server.ask(b"GET /x HTTP/1.1\r\nX: " + b"x" * 20_000), TOO_LARGE),
@@ -309,6 +345,7 @@ def served(server):
         ("closed within the body", closed_within_the_body(server, fifth), b""),
         ("gone before the reply", gone_before_the_reply(server, first), None),
         ("two requests in one piece, of which the first is answered", server.ask(first.whole() + fifth.whole()), first.answer),
+        ("100 kB behind a request", with_more_behind(server, first), first.answer),
         ("gone within the body", gone_within_the_body(server, fifth), None),
         ("and then the request", server.ask(fifth.whole()), fifth.answer),
         ("eight at once", at_once(server, others), [it.answer for it in others]),
