@@ -2,14 +2,16 @@
 # Measures hubs at work, by scripts of the built program crates/fed_hub_play/out/fed_hub_play (after `rt run` there): events that client threads send
 # through one hub, in turn to eight rooms, to three destinations whose carriers answer 200 from memory; and events of eight rooms that threads take
 # from other servers, each from one of its own: by a server that is in none of the rooms, so that taking is all that it does, and by one that is in
-# all of them, while a thread for each room stores the events. Then two hubs of four clients each that send to one another, and one of them that sends
+# all of them, while a thread for each room stores the events. Then events of one client to 1, 3 and 63 destinations, as many as a list of
+# servers has at most. Then two hubs of four clients each that send to one another, and one of them that sends
 # while the other does not; and a hub of which one destination answers nothing, while a client waits for room in the wire to it.
 #
 #     bench/hub.sh [RUNS] [EVENTS] [TRANSACTIONS]
 #
 # Prints for one thread and for eight the time of the fastest run, events a second and the peak memory for one event (of what is taken, with the
 # requests, which are made before the time is taken), and then how many times as many events a second eight threads send or take; of what is taken
-# also the share of looks at the inbox's lock, in all runs, at which a thread had it. Of the two hubs it prints how many times as long both ways take
+# also the share of looks at the inbox's lock, in all runs, at which a thread had it. Of the destinations it prints how many times as long 3 and 63 take as
+# one, and how many times the memory of 3. Of the two hubs it prints how many times as long both ways take
 # as one, and the longest time in which nothing was settled, of looks each 100 ms; of the silent destination, which part of its rate a client keeps that
 # sends to others. Figures of two machines can't be compared.
 set -e
@@ -31,6 +33,15 @@ def sending(clients):
     lines += ["wait sends", "shut a", "wait", "time"] + [f"delivered a {it}" for it in "bcd"]
     wanted = [f"sent {events // clients}"] * clients + ["shut down"] + ["drained"] * 3 + [f"delivered {events}"] * 3
     return lines, wanted
+
+
+def spreading(count, events):
+    """A script: a client of a sends to so many destinations."""
+    dests = [f"s{it}" for it in range(count)]
+    lines = [f"servers a {' '.join(dests)}", f"paper {' '.join(dests)}", f"room !r:a @u:a {' '.join(f'@u:{it}' for it in dests)}", "time"]
+    lines += [f"& turns a {it} max" for it in dests] + [f"sends a {events} !r:a @u:a", "shut a", "wait", "time"]
+    lines += [f"delivered a {it}" for it in dests]
+    return lines, [f"sent {events}", "shut down"] + ["drained"] * count + [f"delivered {events}"] * count
 
 
 def serving(threads, is_in_rooms):
@@ -97,6 +108,9 @@ def longest_pause(script, patience):
     return longest * 100
 
 
+room_of = {}
+
+
 def measure(name, script, count):
     times, peak, held, looks = [], 0, 0, 0
     lines, wanted = script
@@ -115,6 +129,7 @@ def measure(name, script, count):
                 sys.exit(f"{program}: {name}: status {status}, {said[:2000]}")
             times.append(int(timed.read()) / 1e6)
             peak = max(peak, used.ru_maxrss)
+    room_of[name] = peak * 1024 / count
     print(f"{name}, {count} events: least of {runs} runs {min(times) * 1e3:.0f} ms, {count / min(times):.0f} events/s, "
           f"{peak * 1024 / count:.0f} bytes/event" + (f", the inbox's lock is held in {100 * held / looks:.1f}% of {looks} looks" if looks else ""))
     return count / min(times)
@@ -122,6 +137,9 @@ def measure(name, script, count):
 
 one, eight = (measure(f"{it} clients", sending(it), events) for it in (1, 8))
 print(f"eight clients send {eight / one:.1f} times as many events a second as one")
+single, some, many = (measure(f"{it} destinations", spreading(it, events // 4), events // 4) for it in (1, 3, 63))
+print(f"to 3 destinations takes {single / some:.2f} times as long as to one, to 63 {single / many:.2f} times; "
+      f"63 take {room_of['63 destinations'] / room_of['3 destinations']:.2f} times the memory of 3")
 for rooms, what in (0, "take"), (8, "take, while they are stored,"):
     one, eight = (measure(f"{it} serving threads, {rooms} rooms", serving(it, rooms > 0), transactions * 50) for it in (1, 8))
     print(f"eight threads {what} {eight / one:.1f} times as many events a second as one")
