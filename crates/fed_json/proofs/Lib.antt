@@ -1,5 +1,6 @@
 pub mod KeyOrder
 pub mod Quoting
+pub mod PlainTexts
 pub mod CanonicalTexts
 pub mod Injective
 pub mod Equal

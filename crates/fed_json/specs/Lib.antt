@@ -5,6 +5,7 @@ pub mod Places
 pub mod Profile
 pub mod Nesting
 pub mod Quoted
+pub mod PlainTexts
 pub mod CanonicalText
 pub mod Reading
 pub mod JsonRef

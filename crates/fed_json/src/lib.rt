@@ -6,6 +6,7 @@
 //! - `tree`: a value as it is kept, and `entries`, the members of an object in the order of their names
 //! - `reading`: from bytes to a value, and `planting`, from what `serde_json` reads to a value as it is kept
 //! - `writing`: from a value to its one text
+//! - `quoted`: a text in quotes
 //! - `laws`: what holds of all values and their texts
 //! - `fault`: why bytes are no value
 //! - `same`: whether two values are the same
@@ -22,6 +23,7 @@ mod laws;
 mod members;
 mod planting;
 mod profile;
+mod quoted;
 mod reading;
 mod same;
 mod tree;
@@ -35,6 +37,7 @@ pub use laws::{
     key_order, one_text, one_value, texts_are_read, texts_differ, what_is_put, what_is_taken,
 };
 pub use members::Members;
+pub use quoted::append_quoted;
 pub use reading::{MAX_LEVELS, read, read_within};
 pub use value::Json;
 pub use writing::canonical;

@@ -1,6 +1,5 @@
 // From a value to its text.
 ghost use Rattle.std.specs.Prelude.{◌≡◌, ◌∷◌, ◌++◌, false, IfOk, IsUtf8, OnOk, OnErr};
-ghost use Rattle.json.specs.Print.{quoted};
 ghost use Rattle.serde_json.specs.Written.{compact_text, comma_if, items_text, members_text};
 ghost use Rattle.fed_json.specs.CanonicalText.{canonical_text, IsCanonicalText};
 ghost use Rattle.fed_json.specs.Profile.{IsProfile};
@@ -8,12 +7,11 @@ ghost use Rattle.fed_json.specs.Reading.{ReadsAs};
 ghost use Rattle.fed_json.specs.Tree.{view, items_view, members_view, Begins};
 
 use crate::fault::NoMemory;
+use crate::quoted::append_quoted;
 use crate::tree::Tree;
 use crate::value::Json;
 use itoa::Buffer;
-use json::Writer;
 use std::alloc::Global;
-use std::mem;
 
 // The room that a text is given at first: that of a small value.
 const FIRST_ROOM: usize = 128;
@@ -43,7 +41,7 @@ pub(crate) fn append(tree: &Tree, out: &mut Vec<u8>) -> Result<(), NoMemory>
         Tree::Bool(true) => out.extend_from_slice(b"true"),
         Tree::Bool(false) => out.extend_from_slice(b"false"),
         Tree::Number(whole) => out.extend_from_slice(Buffer::new().format(*whole).as_bytes()),
-        Tree::String(text) => append_text(out, text.as_str()),
+        Tree::String(text) => append_quoted(out, text.as_str()),
         Tree::Array(items) => append_items(items, out),
         Tree::Object(members) => append_members(members, out),
     }
@@ -76,7 +74,7 @@ fn append_members(members: &Vec<(String, Tree)>, out: &mut Vec<u8>) -> Result<()
     let mut is_later = false;
     for (name, member) in members {
         append_comma(is_later, out)?;
-        append_text(out, name.as_str())?;
+        append_quoted(out, name.as_str())?;
         out.push(b':')?;
         append(member, out)?;
         is_later = true;
@@ -94,16 +92,4 @@ fn append_comma(is_later: bool, out: &mut Vec<u8>) -> Result<(), NoMemory>
         out.push(b',')?;
     }
     Ok(())
-}
-
-/// Appends a text in quotes. An error leaves `out` as it was.
-#[tactic(auto, unfolding(json::specs::Print::print_from))]
-pub(crate) fn append_text(out: &mut Vec<u8>, text: &str) -> Result<(), NoMemory>
-    ensures ok { OnOk result (out.new.items ≡ out.old.items ++ quoted text.now) }
-    ensures err { OnErr result (out.new.items ≡ out.old.items) }
-{
-    let mut writer = Writer::new(mem::try_take(out)?);
-    let written = writer.string(text);
-    *out = writer.into_inner();
-    written
 }

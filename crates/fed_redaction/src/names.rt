@@ -2,17 +2,13 @@
 ghost use Rattle.std.specs.Prelude.{◌≡◌, ◌∷◌, [], ◌++◌, OnOk};
 ghost use Rattle.json.specs.Print.{quoted};
 
-use fed_json::NoMemory;
-use json::Writer;
-use std::mem;
+use fed_json::{NoMemory, append_quoted};
 
 // Appends the name of a member and its colon.
-#[tactic(auto, unfolding(json::specs::Print::print_from))]
 pub(crate) fn append_name(text: &mut Vec<u8>, name: &str) -> Result<(), NoMemory>
     ensures { OnOk result (text.new.items ≡ text.old.items ++ (quoted name.now ++ 58 ∷ [])) }
 {
-    let mut writer = Writer::new(mem::try_take(text)?);
-    writer.key(name)?;
-    *text = writer.into_inner();
+    append_quoted(text, name)?;
+    text.push(b':')?;
     Ok(())
 }

@@ -9,11 +9,9 @@ ghost use Rattle.fed_http.specs.declared.x_matrix.signing.SignFault.TheVariants.
 use crate::field::Field;
 use crate::request::Request;
 use crate::x_matrix::XMatrix;
-use fed_json::NoMemory;
+use fed_json::{NoMemory, append_quoted};
 use fed_keys::Keys;
-use json::Writer;
 use std::alloc::Global;
-use std::mem;
 use thiserror::Error;
 
 /// Why a request is not signed.
@@ -78,15 +76,11 @@ fn push_content(text: &mut Vec<u8>, content: &[u8]) -> Result<(), NoMemory>
 }
 
 // Appends a key and a text as its value.
-#[tactic(auto, unfolding(json::specs::Print::print_from))]
 fn push_member(text: &mut Vec<u8>, key: &[u8], value: &str) -> Result<(), NoMemory>
     ensures { OnOk result (text.new.items ≡ text.old.items ++ text_member key.now value.now) }
 {
     text.extend_from_slice(key)?;
-    let mut writer = Writer::new(mem::try_take(text)?);
-    writer.string(value)?;
-    *text = writer.into_inner();
-    Ok(())
+    append_quoted(text, value)
 }
 
 /// What the own server says in the Authorization field of a request that it sends to the server `destination`: its name, that of the

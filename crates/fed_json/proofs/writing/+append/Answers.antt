@@ -13,7 +13,7 @@ use Rattle.fed_json.proofs.writing.+append.Goals as goal
 pub append-returns-in-String-clause-utf8 : goal.append-returns-in-String-clause-utf8
 append-returns-in-String-clause-utf8 t c =
     let text : quoted c.as_str.result.now ≡ compact_text (view c.args.tree.now) = ap quoted c.as_str.ensures.value ∙ ap compact_text (sym (view-String c.in-String.text)) ∙ ap (λ v. compact_text (view v)) (sym c.in-String.is) in
-    on_ok c.append_text.result _ (subst IsUtf8 text (IsUtf8-quoted c.as_str.result.now c.as_str.utf8))
+    on_ok c.append_quoted.result _ (subst IsUtf8 text (IsUtf8-quoted c.as_str.result.now c.as_str.utf8))
 
 -- ---- arrays
 
@@ -71,12 +71,12 @@ append_members-loop-name-preserved t c =
     let from : drop l.name-index all ≡ e ∷ drop (l.name-index + 1) all = drop_more all l.name-index e (omega arith) ∙ ap (λ y. y ∷ drop (l.name-index + 1) all) (sym c.loop-name-item.is) in
     let whole = ap (λ ts. l.out.items ++ members_text l.is_later (members_view ts)) (sym from) ∙ l.invariant.text in
     let comma = c.in_ok-append_comma.ensures.ok in
-    let name : c.append_text.new.out.items ≡ c.append_comma.new.out.items ++ quoted (name_of e) = c.in_ok-append_text.ensures.ok ∙ ap (λ k. c.append_comma.new.out.items ++ quoted k) c.as_str.ensures.value in
+    let name : c.append_quoted.new.out.items ≡ c.append_comma.new.out.items ++ quoted (name_of e) = c.in_ok-append_quoted.ensures.ok ∙ ap (λ k. c.append_comma.new.out.items ++ quoted k) c.as_str.ensures.value in
     let colon = c.in_ok-push-2.ensures.items in
     let member = c.in_ok-append.ensures.ok in
     let key : IsUtf8 (name_of e) = subst IsUtf8 c.as_str.ensures.value c.as_str.utf8 in
     record {
-      text = member_written l.out.items c.append_comma.new.out.items c.append_text.new.out.items c.push-in-loop-name.new.self.items c.append.new.out.items _ l.is_later (name_of e) (view e.1) ms comma name colon member whole;
+      text = member_written l.out.items c.append_comma.new.out.items c.append_quoted.new.out.items c.push-in-loop-name.new.self.items c.append.new.out.items _ l.is_later (name_of e) (view e.1) ms comma name colon member whole;
       utf8 = λ h. l.invariant.utf8 (subst (λ ts. IsUtf8 (members_text l.is_later (members_view ts))) (sym from) (member_utf8 l.is_later (name_of e) (view e.1) ms key c.in_ok-append.ensures.utf8 h));
       begins = begins_later _ _ _ (begins_later _ _ _ (begins_later _ _ _ (begins_later _ _ _ l.invariant.begins (_, comma)) (_, name)) (_, colon)) (_, member);
     }
@@ -93,20 +93,20 @@ pub append_members-returns-in_err-append_comma-clause-err : goal.append_members-
 append_members-returns-in_err-append_comma-clause-err t c =
     on_err c.from_residual-in_err-append_comma.result _ (subst (Begins c.args.out.now.items) (sym c.in_err-append_comma.ensures.err) c.loop-name.invariant.begins)
 
-pub append_members-returns-in_err-append_text-clause-err : goal.append_members-returns-in_err-append_text-clause-err
-append_members-returns-in_err-append_text-clause-err t c =
+pub append_members-returns-in_err-append_quoted-clause-err : goal.append_members-returns-in_err-append_quoted-clause-err
+append_members-returns-in_err-append_quoted-clause-err t c =
     let comma = begins_later _ _ _ c.loop-name.invariant.begins (_, c.in_ok-append_comma.ensures.ok) in
-    on_err c.from_residual-in_err-append_text.result _ (subst (Begins c.args.out.now.items) (sym c.in_err-append_text.ensures.err) comma)
+    on_err c.from_residual-in_err-append_quoted.result _ (begins_later _ _ _ comma c.in_err-append_quoted.ensures.err)
 
 pub append_members-returns-in_err-push-2-clause-err : goal.append_members-returns-in_err-push-2-clause-err
 append_members-returns-in_err-push-2-clause-err t c =
     let comma = begins_later _ _ _ c.loop-name.invariant.begins (_, c.in_ok-append_comma.ensures.ok) in
-    let name = begins_later _ _ _ comma (_, c.in_ok-append_text.ensures.ok) in
+    let name = begins_later _ _ _ comma (_, c.in_ok-append_quoted.ensures.ok) in
     on_err c.from_residual-in_err-push-2.result _ (subst (Begins c.args.out.now.items) (sym c.in_err-push-2.ensures.items) name)
 
 pub append_members-returns-in_err-append-clause-err : goal.append_members-returns-in_err-append-clause-err
 append_members-returns-in_err-append-clause-err t c =
     let comma = begins_later _ _ _ c.loop-name.invariant.begins (_, c.in_ok-append_comma.ensures.ok) in
-    let name = begins_later _ _ _ comma (_, c.in_ok-append_text.ensures.ok) in
+    let name = begins_later _ _ _ comma (_, c.in_ok-append_quoted.ensures.ok) in
     let colon = begins_later _ _ _ name (_, c.in_ok-push-2.ensures.items) in
     on_err c.from_residual-in_err-append.result _ (begins_later _ _ _ colon c.in_err-append.ensures.err)
