@@ -18,6 +18,9 @@ from memory.run import FED, event_of, text
 
 EXAMPLES = FED.parent.parent / "examples"
 
+# The id of an event that is redacted to `{}`.
+EMPTY_ID = "$RBNvo1WzZ4oRRq0W9-hknpT7T8If536DEMBg9hyq_4o"
+
 INPUT = """\
 Standard input has a transaction a line: the origin, the transaction number and the body, with one space between.
 For each line the status and the body of the reply are printed. A repeat of a number gets the reply that it got.
@@ -313,6 +316,28 @@ def wrong(line, what):
     return ["sim"], f"{BEGUN}{line}\nfrob\n", "", f"fed: line {told}: {what}\n", 1
 
 
+def malicious():
+    """Lines whose bodies are to do harm, and their answers."""
+    whole = '{"origin":"a.example","origin_server_ts":1,"pdus":[]}'
+    not_json = '400 {"errcode":"M_NOT_JSON","error":"not json"}\n'
+    of = lambda pdus: whole.replace("[]", pdus)
+    deep = lambda levels: of(f"[{{\"a\":{'[' * levels}{']' * levels}}}]")
+    verdict = lambda error: f'200 {{"pdus":{{"{EMPTY_ID}":{{"error":"{error}"}}}}}}\n'
+    bodies = [
+        (deep(99), verdict("missing field: auth_events")),
+        (deep(100), verdict("event too deep")),
+        (deep(200), not_json),
+        (of('[{"a":1},{"a":2}]'), verdict("missing field: auth_events")),
+        *((whole[:end], not_json) for end in range(1, len(whole))),
+        ("[" * 10_000, not_json),
+        (whole.replace("a.example", "a\udcff"), not_json),
+        (whole + " " * (16_777_216 - len(whole)), "200 {\"pdus\":{}}\n"),
+        (whole + " " * (16_777_217 - len(whole)), '413 {"errcode":"M_TOO_LARGE","error":"body too large"}\n'),
+    ]
+    given = "".join(f"a.example {number} {body}\n" for number, (body, _) in enumerate(bodies))
+    return ["inbox"], given, "".join(answer for _, answer in bodies), "", 0
+
+
 def cases():
     """The words, standard input, standard output, standard error and the status."""
     sample, answers = (FED / "stdin").read_text(), (FED / "stdout").read_text()
@@ -365,6 +390,7 @@ def cases():
         ([], empty("x.example") * 100_000, NOT_LISTED * 100_000, "", 0),
         (["inbox"], rooms, with_r, "", 0),
         (["inbox", "--room", "!q:a.example"], rooms, with_q, "", 0),
+        malicious(),
         looped(120),
         looped(1, "--events", "1", "--clients", "8"),
         looped(1000, "--events", "1000", "--clients", "8"),
@@ -388,7 +414,7 @@ def ends(program, words, **streams):
 
 
 def prints(program, words, given, out, err, status):
-    done = ends(program, words, input=given.encode(), stdout=subprocess.PIPE)
+    done = ends(program, words, input=given.encode(errors="surrogateescape"), stdout=subprocess.PIPE)
     return (done.stdout.decode(), done.stderr.decode(), done.returncode) == (out, err, status)
 
 
