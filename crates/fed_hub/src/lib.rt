@@ -5,7 +5,8 @@
 //! token, and ends it. Who proves something of a hub's names makes an `Opened`, and calls a function that is generic over a `Naming` and a
 //! `ServingNaming` of these; that function makes the `Hub` and the `Tokens`.
 //!
-//! - `running`: `run_crew`, a hub from its beginning to its end, and `Outcome`; `crew`: `Crew`, what its threads do
+//! - `running`: `run_crew`, a hub from its beginning to its end, and `Outcome`; `crew`: `Crew`, what its threads do; `muster`:
+//!   `Muster`, threads that begin together or not at all
 //! - `setup`: `Setup`, what a hub is made of; `opened`: `Opened`, what its threads will share, before it has names in a type; `wires`: new wires
 //! - `hub`: `Hub`; `making`: how it is made; `rooms`: its rooms, by their ids
 //! - `reception`: what receives the requests of other servers
@@ -34,6 +35,7 @@ mod gate;
 mod hub;
 mod locking;
 mod making;
+mod muster;
 mod offering;
 mod opened;
 mod ready;
@@ -63,6 +65,7 @@ pub use fed_hub_told::{Told, ToldEdu, ToldEvent};
 pub use fed_journal::JournalFault as CloseFault;
 pub use gate::Gate;
 pub use hub::Hub;
+pub use muster::Muster;
 pub use offering::Sent;
 pub use opened::Opened;
 pub use report::Report;
