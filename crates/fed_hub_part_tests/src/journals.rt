@@ -60,6 +60,20 @@ fn offer<N: Naming, R: Wait>(
     Some(sections::offer_edu(rt, &mut journal, client, edu, dests, loads))
 }
 
+// The same, and the number alone where it is entered.
+fn number_of<N: Naming, R: Wait>(
+    rt: &R,
+    alloc: Global,
+    journal: &Mutex<SendingJournal<N>>,
+    client: &mut ClientToken<N>,
+) -> Option<u64>
+    requires client { 0 < client.old.parts }
+    requires servers { length N.wires ≡ 3 }
+    ensures { client.new.parts ≡ client.old.parts }
+{
+    offer(rt, alloc, journal, client)?.ok()
+}
+
 // Two clients offer in turn, and between two of their offers the outbox for the server at place 1 is closed.
 fn run<N: Naming, R: Wait + Abort>(
     rt: &R,
@@ -77,11 +91,13 @@ fn run<N: Naming, R: Wait + Abort>(
     let mut two = one.split();
     let shared = &Mutex::new(journal);
     let first = ServerIndex::new(1);
-    assert_eq!(rt; offer(rt, alloc, shared, &mut one), Some(Ok(1)));
-    assert_eq!(rt; offer(rt, alloc, shared, &mut two), Some(Ok(2)));
-    assert_eq!(rt; sections::close(rt, &mut shared.lock(rt), first), Ok(true));
-    assert_eq!(rt; sections::close(rt, &mut shared.lock(rt), first), Ok(false));
-    assert_eq!(rt; offer(rt, alloc, shared, &mut one), Some(Ok(3)));
+    assert_eq!(rt; number_of(rt, alloc, shared, &mut one), Some(1));
+    assert_eq!(rt; number_of(rt, alloc, shared, &mut two), Some(2));
+    let was_open = sections::close(rt, &mut shared.lock(rt), first);
+    assert_eq!(rt; was_open.ok(), Some(true));
+    let was_open = sections::close(rt, &mut shared.lock(rt), first);
+    assert_eq!(rt; was_open.ok(), Some(false));
+    assert_eq!(rt; number_of(rt, alloc, shared, &mut one), Some(3));
     one.merge(two);
     let mut journal = shared.lock(rt);
     journal.all_told(&mut one);
@@ -124,14 +140,14 @@ fn fill<N: Naming, R: Wait + Abort>(
     let own = ServerIndex::new(0);
     let first = ServerIndex::new(1);
     for number in 1..=CAPACITY as u64 {
-        assert_eq!(rt; offer(rt, alloc, shared, &mut client), Some(Ok(number)));
+        assert_eq!(rt; number_of(rt, alloc, shared, &mut client), Some(number));
     }
-    let full = offer(rt, alloc, shared, &mut client);
-    assert_eq!(rt; full, Some(Err(EnterFault::Full(first))));
-    let full = Err(CloseFault::Full(first));
-    assert_eq!(rt; sections::close(rt, &mut shared.lock(rt), first), full);
-    let full = Err(CloseFault::Full(first));
-    assert_eq!(rt; sections::shut_down(rt, &mut shared.lock(rt), own), full);
+    let offered = offer(rt, alloc, shared, &mut client);
+    assert!(rt; matches!(&offered, Some(Err(EnterFault::Full(full))) if full.dest == first));
+    let closed = sections::close(rt, &mut shared.lock(rt), first);
+    assert!(rt; matches!(&closed, Err(CloseFault::Full(full)) if full.dest == first));
+    let shut = sections::shut_down(rt, &mut shared.lock(rt), own);
+    assert!(rt; matches!(&shut, Err(CloseFault::Full(full)) if full.dest == first));
     assert_eq!(rt; shared.lock(rt).entries().len(), CAPACITY);
     assert!(rt; matches!(to_first.receive(rt, false), Received::Message(_)));
     let Some(credit) = credits.wait(rt, 1) else {
@@ -139,7 +155,7 @@ fn fill<N: Naming, R: Wait + Abort>(
     };
     let mut journal = shared.lock(rt);
     journal.give(credit);
-    assert_eq!(rt; sections::close(rt, &mut journal, first), Ok(true));
+    assert_eq!(rt; sections::close(rt, &mut journal, first).ok(), Some(true));
     Ok(())
 }
 

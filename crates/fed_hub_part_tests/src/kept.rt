@@ -378,9 +378,7 @@ fn is_nothing_brought<N: ServingNaming, R: Wait>(
     let known = vec![in alloc; String::from_str(alloc, ROOM).ok()?].ok()?;
     let mut room = KeptRoom::start(alloc, "a", beginning(alloc, ROOM)?).ok()?;
     let before = are_brought(alloc, std::slice::from_ref(&room), &known, &[]).ok()?;
-    if !sender.has_room(rt, 1) {
-        return None;
-    }
+    sender.reserve(rt, 1).ok()?;
     sender.send(rt, message(alloc, ROOM)?).ok()?;
     let mut token = RoomToken::<N>::new(alloc, 0, end);
     run_room(rt, alloc, &mut room, &mut token, 1);

@@ -81,9 +81,7 @@ fn send<R: Wait>(
 ) -> Option<()> {
     for event in [one, two] {
         let copy = event.copy(alloc).ok()?;
-        if !end.has_room(rt, 1) {
-            return None;
-        }
+        end.reserve(rt, 1).ok()?;
         end.send(rt, copy).ok()?;
     }
     Some(())

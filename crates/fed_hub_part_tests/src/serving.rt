@@ -12,7 +12,7 @@ use fed_hub_serving::{
 use fed_hub_told::Note;
 use fed_inbox::{Inbox, Receiver};
 use fed_json::NoMemory;
-use fed_keys::StandIn;
+use fed_keys::{StandIn, Trusting};
 use fed_replies::ListStore;
 use fed_wires::{AnyMessage, Credits, SendEnd};
 use std::alloc::Global;
@@ -20,6 +20,7 @@ use std::io;
 use std::io::{ErrorKind, Read, Write};
 use std::marker::Brand;
 use std::process::Abort;
+use std::sync::atomic::{AtomicU64, Ordering};
 use std::sync::{Mutex, Wait};
 use std::test::*;
 
@@ -169,7 +170,8 @@ fn is_point(points: &[KeptPoint], answered: &AnsweredRequest) -> bool {
     }
 }
 
-// The transaction comes ten times, and its reply can be written whole at the last; then come bytes that are no request, or too few.
+// The transaction comes ten times, and its reply, which is one write, can not be written at the first; then come bytes that are no request, or too
+// few.
 fn run<N: ServingNaming, K: Keys, T: Wait + Abort>(
     rt: &T,
     alloc: Global,
@@ -201,7 +203,7 @@ fn run<N: ServingNaming, K: Keys, T: Wait + Abort>(
             broken: false,
         };
         let (served, written) = serve(rt, alloc, &desk, &mut inbox, &mut token, input, writes);
-        let whole = writes == 9;
+        let whole = writes > 0;
         let expected = if whole {
             Served::Answered(200)
         } else {
@@ -317,4 +319,113 @@ fn a_transaction_that_comes_again_has_a_number_of_its_own(rt: HostRuntime) -> Re
         panic!(rt; "no request");
     };
     run_two::<Brand, _, _>(&rt, alloc, inbox, &receiver, &keys, &request)
+}
+
+const EVENT_BODY: &[u8] =
+    b"{\"origin\":\"a.example\",\"origin_server_ts\":5,\"pdus\":[{\"auth_events\":[],\"content\":{},\"depth\":1,\"hashes\":{},\"origin_server_ts\":1,\"prev_events\":[],\
+    \"room_id\":\"!r:a.example\",\"sender\":\"@u:a.example\",\"signatures\":{\"a.example\":{\"k:1\":\"AAAAAAAAAAAAAAAAAAAAAAAAAAAAAAAAAAAAAAAAAAA\
+    AAAAAAAAAAAAAAAAAAAAAAAAAAAAAAAAAAAAAAAAAAA\"}},\"type\":\"m.room.message\"}]}";
+
+// Trusts every signature, and counts how many it was asked to check.
+#[derive(Drop)]
+struct Counting<'a> {
+    keys: Trusting,
+    count: &'a AtomicU64,
+}
+
+impl Keys for Counting<'_> {
+    ghost use Rattle.std.specs.Prelude.{refl};
+    ghost use Rattle.fed_keys.specs.StandIn.{stand_in_key};
+    ghost use Rattle.fed_keys.specs.Trusting.{trusting_signature, trusting_checks};
+
+    ghost own_name = { λ c. c.keys };
+
+    ghost own_key = { λ _. stand_in_key };
+
+    ghost own_signature = { λ _. trusting_signature };
+
+    ghost checks = { λ _. trusting_checks };
+
+    ghost signs = { λ keys message. refl };
+
+    fn own(&self) -> &str {
+        self.keys.own()
+    }
+
+    fn key_name(&self) -> &str {
+        self.keys.key_name()
+    }
+
+    fn sign(&self, bytes: &[u8]) -> [u8; 64] {
+        self.keys.sign(bytes)
+    }
+
+    fn check(&self, server: &str, key: &str, bytes: &[u8], signature: &[u8; 64]) -> bool {
+        self.count.fetch_add(1, Ordering::SeqCst);
+        self.keys.check(server, key, bytes, signature)
+    }
+}
+
+// The bytes of a transaction of a.example with one event.
+fn event_transaction(alloc: Global) -> Option<Vec<u8>> {
+    let keys = StandIn::new(String::from_str(alloc, "a.example").ok()?);
+    let body = Vec::from_slice(alloc, EVENT_BODY).ok()?;
+    let request = signed_request(alloc, "PUT", TARGET, "b.example", body, &keys).ok()?;
+    write_request(alloc, &request).ok()
+}
+
+// The transaction comes twice. At first the signatures of the request and of the event are checked, and then that of the request.
+fn run_again<N: ServingNaming, K: Keys, T: Wait + Abort>(
+    rt: &T,
+    alloc: Global,
+    inbox: Inbox<ListStore>,
+    receiver: &Receiver,
+    keys: &K,
+    count: &AtomicU64,
+    request: &[u8],
+) -> Result<(), Fail>
+    requires checks { K.checks keys.now ≡ N.checks }
+    requires receiver { receiver.now ≡ N.receiver }
+    requires server { IsInboxOf N.receiver inbox.state }
+    requires beginning { inbox.state ≡ N.beginning }
+    requires rooms { (N.known ≡ []) × (N.rooms ≡ []) }
+{
+    let ends: Vec<SendEnd<Checked, AnyMessage>> = Vec::new(alloc);
+    let credits = Credits::new(alloc, &ends)?;
+    let inbox = Mutex::new(KeptInbox::<N, ListStore>::new(alloc, inbox, ends)?);
+    let shared = SharedInbox { inbox, credits };
+    let mut inbox = LockedInbox { shared: &shared };
+    let desk = ServingDesk {
+        receiver,
+        known: &[],
+        keys,
+    };
+    let mut token = ServeToken::new(alloc);
+    let first = serve(rt, alloc, &desk, &mut inbox, &mut token, plain(request), 9);
+    assert_eq!(rt; first.0, Served::Answered(200));
+    assert_eq!(rt; count.load(Ordering::SeqCst), 2);
+    let again = serve(rt, alloc, &desk, &mut inbox, &mut token, plain(request), 9);
+    assert_eq!(rt; again.0, Served::Answered(200));
+    assert_eq!(rt; again.1.as_slice(), first.1.as_slice());
+    assert_eq!(rt; count.load(Ordering::SeqCst), 3);
+    assert!(rt; has_numbers(&token, &[1, 2]));
+    assert!(rt; are_points(shared.inbox.lock(rt).points(), &token));
+    Ok(())
+}
+
+#[test]
+fn a_transaction_that_comes_again_is_not_judged(rt: HostRuntime) -> Result<(), Fail> {
+    let alloc = rt.alloc();
+    let count = AtomicU64::new(0);
+    let keys = Counting {
+        keys: Trusting::new(String::from_str(alloc, "b.example")?),
+        count: &count,
+    };
+    let Some((inbox, receiver)) = server(alloc) else {
+        panic!(rt; "no server");
+    };
+    let Some(request) = event_transaction(alloc) else {
+        panic!(rt; "no request");
+    };
+    run_again::<Brand, _, _>(&rt, alloc, inbox, &receiver, &keys, &count, &request)
 }

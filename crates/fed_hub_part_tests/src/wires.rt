@@ -18,7 +18,7 @@ fn wait_for_room<R: Wait>(rt: &R, end: &mut SendEnd<u64, AnyMessage>)
     ensures { 0 < end.new.room }
 {
     for _ in rt.forever() {
-        if end.has_room(rt, 1) {
+        if end.reserve(rt, 1).is_ok() {
             return;
         }
         end.wait(rt);
@@ -63,7 +63,7 @@ fn a_message_comes_back_where_the_other_end_is_gone(rt: HostRuntime) -> Result<(
     sender.compare(&mut receiver);
     assert_eq!(rt; receiver.receive(&rt, false), Received::Message(7));
     let _received = receiver.finish();
-    assert!(rt; sender.has_room(&rt, 1));
+    assert!(rt; sender.reserve(&rt, 1).is_ok());
     assert_eq!(rt; sender.send(&rt, 8), Err(8));
     let _sent = sender.finish();
 
@@ -79,18 +79,18 @@ fn a_message_comes_back_where_the_other_end_is_gone(rt: HostRuntime) -> Result<(
 #[test]
 fn a_wire_has_room_for_as_many_as_it_does_not_hold(rt: HostRuntime) -> Result<(), Fail> {
     let (mut sender, mut receiver) = wire::<u64, AnyMessage>(rt.alloc())?;
-    assert!(rt; sender.has_room(&rt, CAPACITY));
-    assert!(rt; !sender.has_room(&rt, CAPACITY + 1));
+    assert!(rt; sender.reserve(&rt, CAPACITY).is_ok());
+    assert!(rt; sender.reserve(&rt, CAPACITY + 1).is_err());
     for number in 0..CAPACITY as u64 {
-        assert!(rt; sender.has_room(&rt, 1));
+        assert!(rt; sender.reserve(&rt, 1).is_ok());
         assert_eq!(rt; sender.send(&rt, number), Ok(()));
     }
-    assert!(rt; !sender.has_room(&rt, 1));
+    assert!(rt; sender.reserve(&rt, 1).is_err());
     for number in 0..CAPACITY as u64 / 2 {
         assert_eq!(rt; receiver.receive(&rt, false), Received::Message(number));
     }
-    assert!(rt; !sender.has_room(&rt, CAPACITY / 2 + 1));
-    assert!(rt; sender.has_room(&rt, CAPACITY / 2));
+    assert!(rt; sender.reserve(&rt, CAPACITY / 2 + 1).is_err());
+    assert!(rt; sender.reserve(&rt, CAPACITY / 2).is_ok());
     Ok(())
 }
 
@@ -108,13 +108,13 @@ fn who_waits_gets_the_credit_of_what_is_received(rt: HostRuntime) -> Result<(), 
         panic!(rt; "no credit");
     };
     let sender = &mut ends[0];
-    assert!(rt; !sender.has_room(&rt, 1));
+    assert!(rt; sender.reserve(&rt, 1).is_err());
     sender.give(credit);
-    assert!(rt; sender.has_room(&rt, 1));
+    assert!(rt; sender.reserve(&rt, 1).is_ok());
     // Where the other end is gone nobody waits, and there is room for what comes back.
     drop(receiver);
     assert!(rt; credits.wait(&rt, 0).is_none());
-    assert!(rt; sender.has_room(&rt, 2));
+    assert!(rt; sender.reserve(&rt, 2).is_ok());
     assert_eq!(rt; sender.send(&rt, 7), Err(7));
     Ok(())
 }
