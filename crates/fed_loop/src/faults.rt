@@ -20,6 +20,9 @@ pub enum LoopFault {
     /// A server could not be set up.
     #[error("bad setup")]
     BadSetup,
+    /// The system made too few threads for a server.
+    #[error("too few threads")]
+    NoThreads,
     /// An event was refused.
     #[error("event refused: {0}")]
     Refused(SendFault),

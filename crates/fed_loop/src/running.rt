@@ -4,6 +4,7 @@ use crate::faults::{FirstFault, LoopFault};
 use crate::load::{Counts, Load};
 use crate::sending::{Offered, send_all};
 use crate::taking::take_all;
+use fed_hub::Muster;
 use fed_tcp::{Connector, Door};
 use std::alloc::Global;
 use std::net::{Ipv4Addr, Net, SocketAddr, TcpListener, TcpStream};
@@ -23,8 +24,13 @@ where
     R: Threads + Wait + Clock + Net<Stream = TcpStream, Listener = TcpListener> + Sync,
 {
     let door = Door::open(rt, SocketAddr::from((Ipv4Addr::LOCALHOST, 0)))?;
-    let faults = FirstFault::new();
-    run_both(rt, alloc, &Course { load, door, faults })
+    let course = Course {
+        load,
+        door,
+        faults: FirstFault::new(),
+        muster: Muster::new(2),
+    };
+    run_both(rt, alloc, &course)
 }
 
 // Runs both servers at once.

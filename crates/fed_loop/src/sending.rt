@@ -8,8 +8,8 @@ use crate::load::Load;
 use crate::setups::{ROOM, USERS, setup};
 use fed_event::StandIn;
 use fed_hub::{
-    ClientToken, Crew, FinishFault, Gate, Hub, Naming, Outcome, Ran, Report, RoomToken, Seat,
-    SenderToken, ServeToken, ServingNaming, Tokens, run_crew,
+    ClientToken, Crew, FinishFault, Gate, Hub, Muster, Naming, Outcome, Ran, Report, RoomToken,
+    Seat, SenderToken, ServeToken, ServingNaming, Tokens, run_crew,
 };
 use fed_json::{Json, NoMemory};
 use fed_room_contract::Draft;
@@ -31,12 +31,17 @@ pub(crate) struct Offered {
     pub(crate) delivered: u64,
 }
 
+/// How many threads a has beside those of its clients: one that leads, one that delivers to b, one for the room, and two that would serve, one for each
+/// listed server.
+const OTHERS: u32 = 5;
+
 /// The threads of a, and how many of its clients are not done. `R` is the runtime, or a reference to it.
 #[derive(Drop)]
 struct Sender<'a, R> {
     rt: R,
     alloc: Global,
     course: &'a Course,
+    muster: Muster,
     left: AtomicU64,
 }
 
@@ -57,11 +62,15 @@ fn run<R>(rt: R, alloc: Global, course: &Course) -> Result<Offered, LoopFault>
 where
     R: Threads + Wait + Clock + Connector + Copy + Sync,
 {
+    if !course.muster.begins(&rt) {
+        return Err(LoopFault::NoThreads);
+    }
     let clients = course.load.clients;
     let sender = Sender {
         rt,
         alloc,
         course,
+        muster: Muster::new(OTHERS + clients as u32),
         left: AtomicU64::new(clients),
     };
     run_crew(&rt, alloc, setup(alloc, 0)?, clients, 0, sender)?
@@ -69,7 +78,9 @@ where
 
 impl<R: Wait + Clock + Connector + Copy> Crew<StandIn> for Sender<'_, R> {
     // Nobody reads the board.
-    fn lead<N: Naming + ServingNaming>(&self, _hub: &Hub<N, StandIn>, _readers: &mut [Seat<N>]) {}
+    fn lead<N: Naming + ServingNaming>(&self, _hub: &Hub<N, StandIn>, _readers: &mut [Seat<N>]) {
+        self.muster.begins(&self.rt);
+    }
 
     // Sends a client's share. The last one shuts the server down, so that all who wait for more of it end.
     fn client<N: Naming + ServingNaming>(
@@ -78,6 +89,9 @@ impl<R: Wait + Clock + Connector + Copy> Crew<StandIn> for Sender<'_, R> {
         place: usize,
         token: &mut ClientToken<N>,
     ) {
+        if !self.muster.begins(&self.rt) {
+            return;
+        }
         if let Err(fault) = self.send_share(hub, token, place as u64) {
             self.course.faults.note(&self.rt, fault);
         }
@@ -87,12 +101,18 @@ impl<R: Wait + Clock + Connector + Copy> Crew<StandIn> for Sender<'_, R> {
     }
 
     fn sender<N: Naming + ServingNaming>(&self, hub: &Hub<N, StandIn>, token: &mut SenderToken<N>) {
+        if !self.muster.begins(&self.rt) {
+            return;
+        }
         if let Err(fault) = self.deliver(hub, token) {
             self.course.faults.note(&self.rt, fault);
         }
     }
 
     fn room<N: Naming + ServingNaming>(&self, hub: &Hub<N, StandIn>, token: &mut RoomToken<N>) {
+        if !self.muster.begins(&self.rt) {
+            return;
+        }
         if hub.run_room(&self.rt, self.alloc, token, u64::MAX) == Ran::Memory {
             self.course.faults.note(&self.rt, LoopFault::Memory);
         }
@@ -104,7 +124,9 @@ impl<R: Wait + Clock + Connector + Copy> Crew<StandIn> for Sender<'_, R> {
         _hub: &Hub<N, StandIn>,
         _place: usize,
         _token: &mut ServeToken<N>,
-    ) {}
+    ) {
+        self.muster.begins(&self.rt);
+    }
 }
 
 impl<R: Drop> Outcome<StandIn> for Sender<'_, R> {
@@ -124,6 +146,9 @@ impl<R: Drop> Outcome<StandIn> for Sender<'_, R> {
         _alloc: Global,
         ended: Result<Report<N>, FinishFault>,
     ) -> Result<Offered, LoopFault> {
+        if !self.muster.is_complete() {
+            return Err(LoopFault::NoThreads);
+        }
         let report = ended?;
         let delivered = report.delivered.get(1).ok_or(LoopFault::BadSetup)?;
         Ok(Offered {
@@ -204,12 +229,13 @@ fn draft(alloc: Global, number: u64, at_ms: u64) -> Result<Draft, LoopFault>
     })
 }
 
-fn content(alloc: Global, number: u64) -> Result<Json, LoopFault> {
-    let text = format!(in alloc; "{{\"body\":\"event {number}\",\"msgtype\":\"m.text\"}}")?;
-    match fed_json::read(alloc, text.as_bytes()) {
-        Ok(content) => Ok(content),
-        Err(_) => Err(LoopFault::Memory),
-    }
+fn content(alloc: Global, number: u64) -> Result<Json, NoMemory> {
+    let body = format!(in alloc; "event {number}")?;
+    let kind = String::from_str(alloc, "m.text")?;
+    let mut content = Json::empty_object(alloc);
+    content.put(String::from_str(alloc, "body")?, Json::from(body))?;
+    content.put(String::from_str(alloc, "msgtype")?, Json::from(kind))?;
+    Ok(content)
 }
 
 /// Shuts a server down. It is tried again where there is no memory for it: the threads of the server wait until it is done.
