@@ -3,7 +3,7 @@ use crate::setup::{PEER, setup};
 use crate::stop::Stop;
 use crate::words::Words;
 use fed_event::StandIn;
-use fed_hub::{FinishFault, Gate, Naming, Outcome, Report, ServingNaming, run_crew};
+use fed_hub::{FinishFault, Gate, Muster, Naming, Outcome, Report, ServingNaming, Setup, run_crew};
 use fed_journal::Entry;
 use fed_tcp::{ClockGate, Door};
 use std::alloc::Global;
@@ -21,7 +21,7 @@ pub(crate) struct Counts {
 }
 
 /// What the threads of the server share beside its hub: the runtime, where it serves, where the other server does, how many seconds a request and
-/// an exchange may take, the input, and why it ends early, if it does. `R` is the runtime, or a reference to it.
+/// an exchange may take, the input, the threads, which begin together, and why it ends early, if it does. `R` is the runtime, or a reference to it.
 #[derive(Drop)]
 pub(crate) struct Server<R, I> {
     pub(crate) rt: R,
@@ -30,6 +30,7 @@ pub(crate) struct Server<R, I> {
     pub(crate) peer: Option<SocketAddr>,
     pub(crate) within: u64,
     pub(crate) input: Mutex<I>,
+    pub(crate) muster: Muster,
     pub(crate) stop: Mutex<Option<Stop>>,
 }
 
@@ -49,6 +50,7 @@ where
     let address = door.address();
     eprintln!(rt; "{address}")?;
     let setup = setup(alloc, ClockGate::new(rt).now(), words.peers).ok_or(Stop::NotSetUp)?;
+    let threads = threads_of(&setup);
     let server = Server {
         rt,
         alloc,
@@ -56,10 +58,19 @@ where
         peer: words.peer,
         within: words.within,
         input: Mutex::new(input),
+        muster: Muster::new(threads),
         stop: Mutex::new(None),
     };
     // It has one client, and nobody reads its board.
     run_crew(&rt, alloc, setup, 1, 0, server)?
+}
+
+// How many threads there are: one that leads, one for the client, one for each other server and for each room, and one that serves for each listed
+// server.
+fn threads_of(setup: &Setup<StandIn>) -> u32 {
+    let listed = setup.list.len() as u32;
+    let rooms = u32::try_from(setup.rooms.len()).unwrap_or(u32::MAX);
+    listed.wrapping_mul(2).wrapping_add(rooms).wrapping_add(1)
 }
 
 impl<R: Drop, I: Drop> Outcome<StandIn> for Server<R, I> {
@@ -70,6 +81,9 @@ impl<R: Drop, I: Drop> Outcome<StandIn> for Server<R, I> {
         _alloc: Global,
         ended: Result<Report<N>, FinishFault>,
     ) -> Result<Counts, Stop> {
+        if !self.muster.is_complete() {
+            return Err(Stop::NoThreads);
+        }
         if let Some(stop) = self.stop.into_inner() {
             return Err(stop);
         }

@@ -23,6 +23,9 @@ pub(crate) enum Stop {
     /// There is no such server, or no memory for one.
     #[error("not set up")]
     NotSetUp,
+    /// The system made too few threads.
+    #[error("too few threads")]
+    NoThreads,
     /// A line is no content of a message.
     #[error("bad line")]
     BadLine,

@@ -30,7 +30,9 @@ where
     I: BufRead + Send + Drop,
 {
     // Nobody reads the board.
-    fn lead<N: Naming + ServingNaming>(&self, _hub: &Hub<N, StandIn>, _readers: &mut [Seat<N>]) {}
+    fn lead<N: Naming + ServingNaming>(&self, _hub: &Hub<N, StandIn>, _readers: &mut [Seat<N>]) {
+        self.muster.begins(&self.rt);
+    }
 
     // Sends what the input has. Then later sends are refused, and whoever waits for more is told.
     fn client<N: Naming + ServingNaming>(
@@ -39,6 +41,9 @@ where
         _place: usize,
         token: &mut ClientToken<N>,
     ) {
+        if !self.muster.begins(&self.rt) {
+            return;
+        }
         if let Err(stop) = self.send_lines(hub, token) {
             *self.stop.lock(&self.rt) = Some(stop);
         }
@@ -48,6 +53,9 @@ where
 
     // Delivers to another server. Where memory runs out it goes on later.
     fn sender<N: Naming + ServingNaming>(&self, hub: &Hub<N, StandIn>, token: &mut SenderToken<N>) {
+        if !self.muster.begins(&self.rt) {
+            return;
+        }
         for _ in self.rt.forever() {
             if self.deliver(hub, token).is_ok() {
                 return;
@@ -58,6 +66,9 @@ where
 
     // Stores what comes for a room, until the hub is shut down. Where memory runs out it goes on later.
     fn room<N: Naming + ServingNaming>(&self, hub: &Hub<N, StandIn>, token: &mut RoomToken<N>) {
+        if !self.muster.begins(&self.rt) {
+            return;
+        }
         for _ in self.rt.forever() {
             if hub.run_room(&self.rt, self.alloc, token, u64::MAX) == Ran::Drained {
                 return;
@@ -74,6 +85,9 @@ where
         _place: usize,
         token: &mut ServeToken<N>,
     ) {
+        if !self.muster.begins(&self.rt) {
+            return;
+        }
         for _ in self.rt.forever() {
             if serve(&self.rt, self.alloc, hub, token, &self.door, self.within).is_ok() {
                 break;
