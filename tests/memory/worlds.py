@@ -95,19 +95,21 @@ def later(line, packet):
 
 
 class Program:
-    def __init__(self, path, folder):
-        self.path, self.folder, self.runs = path, folder, 0
+    def __init__(self, path, folder, *words):
+        self.words, self.folder, self.numbers, self.runs = [path, *words], folder, itertools.count(1), 0
         self.shim = folder / "refuse.so"
         subprocess.run(["cc", "-shared", "-fPIC", "-O1", "-o", self.shim, HERE / "refuse.c", "-ldl"], check=True)
 
     def run(self, commands, at):
         """Its lines, its status, what it told of faults, and whether an allocation was refused."""
-        self.runs += 1
-        log = self.folder / "refused"
-        log.unlink(missing_ok=True)
+        self.runs = next(self.numbers)
+        log = self.folder / f"refused-{self.runs}"
         env = dict(os.environ, LD_PRELOAD=str(self.shim), REFUSE_AT=str(at), REFUSE_LOG=str(log))
         text = "".join(f"{it}\n" for it in commands)
-        done = subprocess.run([self.path, "sim"], input=text, env=env, capture_output=True, text=True)
+        try:
+            done = subprocess.run(self.words, input=text, env=env, capture_output=True, text=True, timeout=60)
+        except subprocess.TimeoutExpired:
+            sys.exit(f"allocation {at} of a run was refused, and it does not end: {commands}")
         return done.stdout.splitlines(), done.returncode, done.stderr, log.exists()
 
 
@@ -187,7 +189,7 @@ def seen_of(program, name, steps):
 def main():
     path = pathlib.Path(sys.argv[1] if len(sys.argv) > 1 else FED / "out" / "fed").resolve()
     with tempfile.TemporaryDirectory() as folder:
-        program = Program(path, pathlib.Path(folder))
+        program = Program(path, pathlib.Path(folder), "sim")
         seen = [it for name, script in SCRIPTS.items() for it in seen_of(program, name, steps_of(script)).items()]
     refused = {command.split()[0] for command, found in seen if "no memory" in found}
     if missing := MAKERS - refused:
