@@ -1,6 +1,6 @@
 // Where the threads of one server get their orders.
-use crate::order::{Desk, Line, Order, Stop, new_desk};
-use crossbeam_channel::{Receiver, Sender, unbounded};
+use crate::order::{Desk, Line, MOST_ORDERS, Order, Stop, new_desk};
+use crossbeam_channel::{Receiver, Sender, bounded};
 use std::alloc::{AllocError, Global};
 use std::sync::{Arc, Mutex, Wait};
 
@@ -166,7 +166,7 @@ fn serve_desks(
     let mut servers = Vec::with_capacity(alloc, desks.len())?;
     let mut all = Vec::with_capacity(alloc, desks.len())?;
     for desk in desks {
-        let (replies, receiver) = unbounded(alloc)?;
+        let (replies, receiver) = bounded(alloc, MOST_ORDERS)?;
         servers.push(ServeDesk { desk, replies })?;
         all.push(Some(receiver))?;
     }

@@ -1,6 +1,6 @@
 // What the threads of a server are asked, and how they answer.
 use crate::exchange::Exchange;
-use crossbeam_channel::{Receiver, Sender, unbounded};
+use crossbeam_channel::{Receiver, Sender, bounded};
 use std::alloc::{AllocError, Global};
 use std::sync::Wait;
 
@@ -121,10 +121,13 @@ pub(crate) struct Line {
     told: Receiver<String>,
 }
 
+/// More than wait at a time. There is room for them from the first on, so that orders and what came of them are told where memory has run out.
+pub(crate) const MOST_ORDERS: usize = 1_024;
+
 /// A new desk, and its line.
 pub(crate) fn new_desk(alloc: Global) -> Result<(Desk, Line), AllocError> {
-    let (to_desk, orders) = unbounded(alloc)?;
-    let (told, from_desk) = unbounded(alloc)?;
+    let (to_desk, orders) = bounded(alloc, MOST_ORDERS)?;
+    let (told, from_desk) = bounded(alloc, MOST_ORDERS)?;
     let desk = Desk { orders, told };
     let line = Line {
         orders: to_desk,
