@@ -3,8 +3,9 @@
 
     tests/threads/refused.py [PROGRAM]
 
-It fails unless each run ends by itself within two minutes: with all events delivered, or with status 1 and a line that tells why, which for some
-runs is `too few threads`; and unless a run in which no thread is refused delivers all. The runs go on side by side, since each waits for some seconds.
+It fails unless each run ends by itself within two minutes: with all events delivered, or with status 1 and a line that tells why; unless a run in which no
+thread is refused delivers all; and unless most runs tell that there are too few threads. A few deliver all, since the thread that is refused had nothing to
+do; where many do, a server waits for fewer threads than it has. The runs go on side by side, since each waits for some seconds.
 """
 import os
 import pathlib
@@ -16,7 +17,8 @@ HERE = pathlib.Path(__file__).resolve().parent
 FED = HERE.parent.parent / "crates" / "fed"
 EVENTS = 40
 ALL = "".join(f"{word} {EVENTS}\n" for word in ("sent", "taken", "delivered"))
-FAULTS = {"fed: too few threads\n", "fed: input or output failed\n"}
+TOO_FEW = "fed: too few threads\n"
+FAULTS = {TOO_FEW, "fed: input or output failed\n"}
 
 # More than the two servers have.
 MOST = 32
@@ -46,8 +48,8 @@ def main():
             if not log.exists() and not is_well or log.exists() and not is_well and not (run.returncode == 1 and fault in FAULTS):
                 sys.exit(f"thread {at}: status {run.returncode}, {out!r}, {fault!r}")
             told += [fault] * log.exists()
-    if "fed: too few threads\n" not in told or len(told) == MOST:
-        sys.exit(f"of {MOST} threads {len(told)} were refused: {sorted(set(told))}")
+    if len(told) == MOST or 2 * told.count(TOO_FEW) <= len(told):
+        sys.exit(f"of {MOST} threads {len(told)} were refused, and {told.count(TOO_FEW)} runs told of it")
     print(f"{len(told)} threads refused in turn: {sum(bool(it) for it in told)} runs told why they ended, the others delivered all")
 
 
