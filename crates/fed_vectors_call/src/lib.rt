@@ -13,5 +13,5 @@ mod made;
 pub use answer::{Answer, Stop};
 pub use arguments::{Arguments, LAST_MOMENT};
 pub use made::{
-    List, Object, copy, count, hex_of, list_of, null, number, text, text_of_bytes, truth,
+    List, Object, again, copy, count, hex_of, list_of, null, number, text, text_of_bytes, truth,
 };

@@ -1,13 +1,14 @@
 // The values that calls give.
 
 use crate::answer::{Answer, Stop};
-use fed_json::{Json, JsonRef, MAX_LEVELS, read_within};
+use fed_json::{Json, JsonFault, JsonRef, MAX_LEVELS, read_within};
 use std::alloc::Global;
 
 // The value of a JSON text that nests at most 127 levels and has whole numbers only.
 fn value_of(alloc: Global, text: &[u8]) -> Answer {
     match read_within(alloc, text, MAX_LEVELS) {
         Ok(value) => Ok(value),
+        Err(JsonFault::Memory) => Err(Stop::Memory),
         Err(_) => Err(too_deep(alloc)),
     }
 }
@@ -58,6 +59,14 @@ pub fn list_of(alloc: Global, values: &[Json]) -> Answer {
         list = list.with(Ok(value.copy()?));
     }
     list.into_answer()
+}
+
+/// What is told of an operation that memory ran out for and that was made once more: what was seen in between, and its answer then.
+pub fn again(alloc: Global, seen: Answer, answer: Answer) -> Answer {
+    Object::new(alloc)
+        .with("again", answer)
+        .with("refused", seen)
+        .into_answer()
 }
 
 /// A list that is put together, item by item: its text up to the last item, or why there is none.

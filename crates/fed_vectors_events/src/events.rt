@@ -1,7 +1,7 @@
 // Calls on events: their tests, their fields, the checks on receipt, and sealing.
 
 use crate::key_ring::KeyRing;
-use fed_event::{Checked, EventId, EventIds, Keys, Pdu, is_sent_by};
+use fed_event::{CheckFault, Checked, EventId, EventIds, Keys, Pdu, PduFault, is_sent_by};
 use fed_json::Json;
 use fed_vectors_call::{Answer, Arguments, List, Object, Stop, copy, number, text, truth};
 use std::alloc::Global;
@@ -96,10 +96,11 @@ fn told_of(alloc: Global, checked: &Checked) -> Answer {
 pub fn checked_in(alloc: Global, keys: &KeyRing, value: Json) -> Result<Checked, Stop> {
     let event = match Pdu::of_json(alloc, value) {
         Ok(event) => event,
-        Err(fault) => return Err(Stop::error(fault.verdict_text(alloc))),
+        Err(fault) => return Err(failing(alloc, fault)),
     };
     match fed_event::check_in(alloc, event, keys) {
         Ok(checked) => Ok(checked),
+        Err(CheckFault::Memory) => Err(Stop::Memory),
         Err(fault) => Err(Stop::error(format!(in alloc; "{fault}"))),
     }
 }
@@ -117,7 +118,15 @@ pub fn sealed(alloc: Global, keys: &KeyRing, parts: Json) -> Result<Checked, Sto
     }
     match fed_event::seal(alloc, parts, keys) {
         Ok(sealed) => Ok(sealed),
-        Err(fault) => Err(Stop::error(fault.verdict_text(alloc))),
+        Err(fault) => Err(failing(alloc, fault)),
+    }
+}
+
+// The verdict on a value that is no event.
+fn failing(alloc: Global, fault: PduFault) -> Stop {
+    match fault {
+        PduFault::Memory => Stop::Memory,
+        fault => Stop::error(fault.verdict_text(alloc)),
     }
 }
 
