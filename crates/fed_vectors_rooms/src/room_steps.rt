@@ -1,9 +1,9 @@
 // Operations on a room, and what can be seen of it.
 
 use fed_event::{Checked, EventId};
-use fed_json::{Json, JsonRef};
+use fed_json::{Json, JsonRef, NoMemory};
 use fed_room_contract::{Applied, Draft, Receipt, Refusal, RoomEngine, State, advance_all, apply};
-use fed_vectors_call::{Answer, Arguments, List, Object, Stop, count, null, text};
+use fed_vectors_call::{Answer, Arguments, List, Object, Stop, again, count, null, text};
 use fed_vectors_events::KeyRing;
 use fed_vectors_events::events::{event_of, ids};
 use fed_vectors_graphs::{receipt_words, verdict_words};
@@ -21,28 +21,35 @@ pub(crate) fn answers<R: RoomEngine>(call: Arguments<'_>, keys: &KeyRing, room: 
 // The answer to an operation, and what can be seen of the room behind it.
 fn answer<R: RoomEngine>(alloc: Global, item: JsonRef<'_>, keys: &KeyRing, room: &mut R) -> Answer {
     let operation = Arguments::of(alloc, item, "operations")?;
-    let answer = step(operation.only_name()?, operation, room, keys);
-    with_room(alloc, answer, room)
+    let name = operation.only_name()?;
+    match step(name, operation, room, keys) {
+        Ok(answer) => with_room(alloc, answer, room),
+        Err(NoMemory) => {
+            let refused = with_room(alloc, current(alloc, room), room);
+            let answer = step(name, operation, room, keys)?;
+            again(alloc, refused, with_room(alloc, answer, room))
+        }
+    }
 }
 
-// Makes the operation that an object names, and tells its answer.
+// Makes the operation that an object names, and tells its answer, where the room has memory for it.
 fn step<R: RoomEngine>(
     name: &str,
     operation: Arguments<'_>,
     room: &mut R,
     keys: &KeyRing,
-) -> Answer {
+) -> Result<Answer, NoMemory> {
     match name {
         "receive" => receive(operation, room, keys),
         "apply" => applied(operation, room, keys),
         "advance" => advance(operation.alloc, room),
         "advance_all" => match advance_all(operation.alloc, room) {
-            Ok(stored) => count(operation.alloc, stored as u64),
-            Err(_) => Err(Stop::Memory),
+            Ok(stored) => Ok(count(operation.alloc, stored as u64)),
+            Err(_) => Err(NoMemory),
         },
         "send" => send(operation, room, keys),
         "prepare" => prepare(operation, room, keys),
-        _ => look(name, operation, room),
+        _ => Ok(look(name, operation, room)),
     }
 }
 
@@ -54,70 +61,107 @@ fn look<R: RoomEngine>(name: &str, operation: Arguments<'_>, room: &R) -> Answer
             Some(state) => entries(alloc, &state),
             None => null(alloc),
         },
-        "current" => entries(alloc, &room.current(alloc)?),
+        "current" => current(alloc, room),
         "extremities" => ids(alloc, room.extremities()),
         _ => Err(operation.wrong_kind("operations")),
     }
 }
 
-fn receive<R: RoomEngine>(operation: Arguments<'_>, room: &mut R, keys: &KeyRing) -> Answer {
-    let event = event_of(operation, "receive", keys)?;
-    received(operation.alloc, room, event)
+fn receive<R: RoomEngine>(
+    operation: Arguments<'_>,
+    room: &mut R,
+    keys: &KeyRing,
+) -> Result<Answer, NoMemory> {
+    match event_of(operation, "receive", keys) {
+        Ok(event) => received(operation.alloc, room, event),
+        Err(stop) => Ok(Err(stop)),
+    }
 }
 
 // What becomes of an event, and how many were stored after it.
-fn applied<R: RoomEngine>(operation: Arguments<'_>, room: &mut R, keys: &KeyRing) -> Answer {
-    let alloc = operation.alloc;
-    match apply(alloc, room, event_of(operation, "apply", keys)?) {
-        Ok(Applied { receipt, more }) => List::new(alloc)
-            .with(Ok(Json::from(receipt_words(alloc, receipt)?)))
-            .with(count(alloc, more as u64))
-            .into_answer(),
+fn applied<R: RoomEngine>(
+    operation: Arguments<'_>,
+    room: &mut R,
+    keys: &KeyRing,
+) -> Result<Answer, NoMemory> {
+    let event = match event_of(operation, "apply", keys) {
+        Ok(event) => event,
+        Err(stop) => return Ok(Err(stop)),
+    };
+    match apply(operation.alloc, room, event) {
+        Ok(applied) => Ok(told_of_applied(operation.alloc, applied)),
         Err(stopped) => {
             drop(stopped);
-            Err(Stop::Memory)
+            Err(NoMemory)
         }
     }
 }
 
-/// What becomes of an event that a room receives.
-pub(crate) fn received<R: RoomEngine>(alloc: Global, room: &mut R, event: Checked) -> Answer {
+fn told_of_applied(alloc: Global, applied: Applied) -> Answer {
+    let Applied { receipt, more } = applied;
+    List::new(alloc)
+        .with(receipt_text(alloc, receipt))
+        .with(count(alloc, more as u64))
+        .into_answer()
+}
+
+fn receipt_text(alloc: Global, receipt: Receipt) -> Answer {
+    Ok(Json::from(receipt_words(alloc, receipt)?))
+}
+
+/// What becomes of an event that a room receives, where it has memory for it.
+pub(crate) fn received<R: RoomEngine>(
+    alloc: Global,
+    room: &mut R,
+    event: Checked,
+) -> Result<Answer, NoMemory> {
     match room.receive(alloc, event) {
-        Ok(receipt) => Ok(Json::from(receipt_words(alloc, receipt)?)),
-        Err((event, _)) => {
+        Ok(receipt) => Ok(receipt_text(alloc, receipt)),
+        Err((event, error)) => {
             drop(event);
-            Err(Stop::Memory)
+            Err(error)
         }
     }
 }
 
-fn advance<R: RoomEngine>(alloc: Global, room: &mut R) -> Answer {
+fn advance<R: RoomEngine>(alloc: Global, room: &mut R) -> Result<Answer, NoMemory> {
     match room.advance(alloc)? {
-        Some((id, receipt)) => told_of(alloc, &id, receipt),
-        None => null(alloc),
+        Some((id, receipt)) => Ok(told_of(alloc, &id, receipt)),
+        None => Ok(null(alloc)),
     }
 }
 
 // The id of an event, and what became of it.
 fn told_of(alloc: Global, id: &EventId, receipt: Receipt) -> Answer {
-    let receipt = receipt_words(alloc, receipt)?;
     List::new(alloc)
         .with(text(alloc, id.as_str()))
-        .with(Ok(Json::from(receipt)))
+        .with(receipt_text(alloc, receipt))
         .into_answer()
 }
 
-fn send<R: RoomEngine>(operation: Arguments<'_>, room: &mut R, keys: &KeyRing) -> Answer {
-    let draft = draft(operation, "send")?.copy(operation.alloc)?;
-    told_of_draft(operation.alloc, sent(operation.alloc, room, draft, keys))
+fn send<R: RoomEngine>(
+    operation: Arguments<'_>,
+    room: &mut R,
+    keys: &KeyRing,
+) -> Result<Answer, NoMemory> {
+    match draft_copy(operation, "send") {
+        Ok(draft) => told_of_draft(operation.alloc, sent(operation.alloc, room, draft, keys)),
+        Err(stop) => Ok(Err(stop)),
+    }
 }
 
-fn prepare<R: RoomEngine>(operation: Arguments<'_>, room: &mut R, keys: &KeyRing) -> Answer {
-    let draft = draft(operation, "prepare")?;
-    told_of_draft(
-        operation.alloc,
-        prepared(operation.alloc, room, draft, keys),
-    )
+fn prepare<R: RoomEngine>(
+    operation: Arguments<'_>,
+    room: &mut R,
+    keys: &KeyRing,
+) -> Result<Answer, NoMemory> {
+    match draft(operation, "prepare") {
+        Ok(draft) => {
+            let made = prepared(operation.alloc, room, draft, keys);
+            told_of_draft(operation.alloc, made)
+        }
+        Err(stop) => Ok(Err(stop)),
+    }
 }
 
 // The id of the event that a room makes of a draft and stores.
@@ -143,12 +187,20 @@ fn prepared<R: RoomEngine>(
 }
 
 // The id of the event that was made of a draft, or why none was.
-fn told_of_draft(alloc: Global, made: Result<EventId, Refusal>) -> Answer {
+fn told_of_draft(alloc: Global, made: Result<EventId, Refusal>) -> Result<Answer, NoMemory> {
     match made {
-        Ok(id) => text(alloc, id.as_str()),
-        Err(Refusal::Memory) => Err(Stop::Memory),
-        Err(refusal) => Ok(Json::from(format!(in alloc; "refused: {refusal}")?)),
+        Ok(id) => Ok(text(alloc, id.as_str())),
+        Err(Refusal::Memory) => Err(NoMemory),
+        Err(refusal) => Ok(refusal_text(alloc, refusal)),
     }
+}
+
+fn refusal_text(alloc: Global, refusal: Refusal) -> Answer {
+    Ok(Json::from(format!(in alloc; "refused: {refusal}")?))
+}
+
+fn draft_copy(operation: Arguments<'_>, name: &str) -> Result<Draft, Stop> {
+    Ok(draft(operation, name)?.copy(operation.alloc)?)
 }
 
 fn draft(operation: Arguments<'_>, name: &str) -> Result<Draft, Stop> {
@@ -166,6 +218,11 @@ fn draft(operation: Arguments<'_>, name: &str) -> Result<Draft, Stop> {
         content: parts.value("content")?,
         at_ms,
     })
+}
+
+// The entries of the current state.
+fn current<R: RoomEngine>(alloc: Global, room: &R) -> Answer {
+    entries(alloc, &room.current(alloc)?)
 }
 
 fn entries(alloc: Global, state: &State) -> Answer {

@@ -2,7 +2,7 @@
 
 use crate::room_steps::{answers, received};
 use fed_event::{Checked, StandIn};
-use fed_json::JsonRef;
+use fed_json::{JsonRef, NoMemory};
 use fed_room::{Room, StartFault, StartedFault};
 use fed_room_contract::{Receipt, RoomEngine};
 use fed_vectors_call::{Answer, Arguments, Object, Stop, count, null};
@@ -39,36 +39,52 @@ pub fn room(call: Arguments<'_>) -> Answer {
     answers(call, &keys, &mut room)
 }
 
-/// How many events wait and how many are dropped, where many of the same parts come, each with a date of its own.
+/// How many events wait and how many are dropped, where many of the same parts come, each with a date of its own. One that memory runs out
+/// for comes once more, and `refused` tells how often that was, where it was.
 pub fn waiting(call: Arguments<'_>) -> Answer {
     let keys = KeyRing::of(call, call.text("own")?)?;
     let mut room = begun(call, &keys)?;
-    let last = receive_all(call, &keys, &mut room)?;
-    counts(call.alloc, &room)
-        .with("last", Ok(last))
+    let mut refused = 0;
+    let last = receive_all(call, &keys, &mut room, &mut refused)?;
+    let told = counts(call.alloc, &room).with("last", Ok(last));
+    if refused == 0 {
+        return told.into_answer();
+    }
+    told.with("refused", count(call.alloc, refused))
         .into_answer()
 }
 
 // What becomes of the last one of the events.
-fn receive_all(call: Arguments<'_>, keys: &KeyRing, room: &mut Room) -> Answer {
+fn receive_all(
+    call: Arguments<'_>,
+    keys: &KeyRing,
+    room: &mut Room,
+    refused: &mut u64,
+) -> Answer {
     let parts = call.get("parts")?;
     let mut last = null(call.alloc)?;
     for date in 0..call.whole("count")? {
-        last = receive_dated(call.alloc, parts, keys, room, date)?;
+        last = match receive_dated(call.alloc, parts, keys, room, date)? {
+            Ok(answer) => answer?,
+            Err(NoMemory) => {
+                *refused = refused.saturating_add(1);
+                receive_dated(call.alloc, parts, keys, room, date)???
+            }
+        };
     }
     Ok(last)
 }
 
-// What becomes of the event of these parts with this date.
+// What becomes of the event of these parts with this date, where the room has memory for it.
 fn receive_dated(
     alloc: Global,
     parts: JsonRef<'_>,
     keys: &KeyRing,
     room: &mut Room,
     date: u64,
-) -> Answer {
+) -> Result<Result<Answer, NoMemory>, Stop> {
     let event = dated(alloc, parts, keys, date)?;
-    received(alloc, room, event)
+    Ok(received(alloc, room, event))
 }
 
 // The event of these parts with this date.

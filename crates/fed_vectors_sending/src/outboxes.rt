@@ -4,10 +4,10 @@ use crate::offers::Offers;
 use crate::places::server;
 use fed_dest::ServerIndex;
 use fed_journal::{Load, MAX_ENTRIES, Parcel, Place};
-use fed_json::Json;
+use fed_json::{Json, NoMemory};
 use fed_outbox::{Outbox, OutboxFault, Settlement, Transaction};
 use fed_vectors_call::{
-    Answer, Arguments, LAST_MOMENT, List, Object, Stop, count, list_of, null, text, truth,
+    Answer, Arguments, LAST_MOMENT, List, Object, Stop, again, count, list_of, null, text, truth,
 };
 use fed_vectors_events::events::event_ids;
 use std::alloc::Global;
@@ -17,22 +17,39 @@ pub fn outbox(call: Arguments<'_>) -> Answer {
     let offers = Offers::of(call)?;
     let mut outbox = Outbox::new(call.alloc, server(call, "dest")?);
     let answers = answers(call, &mut outbox, &offers)?;
-    with_outbox(call, answers, &outbox)
+    seen(call, &outbox)
+        .with("answers", Ok(answers))
+        .into_answer()
 }
 
 fn answers(call: Arguments<'_>, outbox: &mut Outbox, offers: &Offers) -> Answer {
     let mut answers = List::new(call.alloc);
     for item in call.items("operations")? {
         let operation = Arguments::of(call.alloc, item, "operations")?;
-        answers = answers.with(step(operation, outbox, offers));
+        answers = answers.with(match step(operation, outbox, offers) {
+            Ok(answer) => answer,
+            Err(NoMemory) => {
+                let refused = seen(call, outbox).into_answer();
+                again(call.alloc, refused, step(operation, outbox, offers)?)
+            }
+        });
     }
     answers.into_answer()
 }
 
-fn step(operation: Arguments<'_>, outbox: &mut Outbox, offers: &Offers) -> Answer {
+// The answer to an operation, where the outbox has memory for it.
+fn step(
+    operation: Arguments<'_>,
+    outbox: &mut Outbox,
+    offers: &Offers,
+) -> Result<Answer, NoMemory> {
     if operation.find("at").is_some() {
         return accept(operation, outbox, offers);
     }
+    Ok(step_of_one_name(operation, outbox, offers))
+}
+
+fn step_of_one_name(operation: Arguments<'_>, outbox: &mut Outbox, offers: &Offers) -> Answer {
     match operation.only_name()? {
         "fill" => fill(operation, outbox, offers),
         "cut" => sent(operation.alloc, outbox.cut(operation.moment("cut")?)),
@@ -57,12 +74,24 @@ fn look(name: &str, operation: Arguments<'_>, outbox: &Outbox) -> Answer {
 }
 
 // Whether a parcel is accepted, or why it is not.
-fn accept(operation: Arguments<'_>, outbox: &mut Outbox, offers: &Offers) -> Answer {
-    match accept_parcel(outbox, parcel(operation, outbox.dest(), offers)?) {
-        Ok(()) => text(operation.alloc, "ok"),
-        Err(OutboxFault::Memory) => Err(Stop::Memory),
-        Err(fault) => Ok(Json::from(format!(in operation.alloc; "{fault}")?)),
+fn accept(
+    operation: Arguments<'_>,
+    outbox: &mut Outbox,
+    offers: &Offers,
+) -> Result<Answer, NoMemory> {
+    let parcel = match parcel(operation, outbox.dest(), offers) {
+        Ok(parcel) => parcel,
+        Err(stop) => return Ok(Err(stop)),
+    };
+    match accept_parcel(outbox, parcel) {
+        Ok(()) => Ok(text(operation.alloc, "ok")),
+        Err(OutboxFault::Memory) => Err(NoMemory),
+        Err(fault) => Ok(fault_text(operation.alloc, fault)),
     }
+}
+
+fn fault_text(alloc: Global, fault: OutboxFault) -> Answer {
+    Ok(Json::from(format!(in alloc; "{fault}")?))
 }
 
 fn accept_parcel(outbox: &mut Outbox, parcel: Parcel) -> Result<(), OutboxFault> {
@@ -194,14 +223,13 @@ fn acked(alloc: Global, outbox: &Outbox) -> Answer {
         .into_answer()
 }
 
-fn with_outbox(call: Arguments<'_>, answers: Json, outbox: &Outbox) -> Answer {
+// What can be seen of an outbox.
+fn seen(call: Arguments<'_>, outbox: &Outbox) -> Object {
     with_accepted(call, outbox)
         .with("acked", acked(call.alloc, outbox))
-        .with("answers", Ok(answers))
         .with("due_at", count(call.alloc, outbox.due_at()))
         .with("ended", truth(call.alloc, outbox.ended()))
         .with("expected", count(call.alloc, outbox.expected()))
-        .into_answer()
 }
 
 // What was accepted, or how many of each.

@@ -17,21 +17,27 @@ struct Feed {
 }
 
 /// The messages of a stream, each with the place behind it, and how the stream ends: the same in pieces of any size, and of all its bytes
-/// at once.
+/// at once. A reader that has no memory for a piece is fed it once more, and `refused` tells how often that was, where it was.
 pub fn stream(call: Arguments<'_>) -> Answer {
     let kind = kind(call)?;
     let bytes = call.bytes()?;
-    let told = fed(call.alloc, kind, &pieces(call, &bytes)?)?;
+    let mut refused = 0;
+    let told = fed(call.alloc, kind, &pieces(call, &bytes)?, &mut refused)?;
     for size in SIZES {
         let pieces = pieces_of(call.alloc, &bytes, size)?;
-        if told != fed(call.alloc, kind, &pieces)? {
+        if told != fed(call.alloc, kind, &pieces, &mut refused)? {
             return Err(Stop::error(format!(in call.alloc; "cut otherwise")));
         }
     }
     if told != read_plainly(call.alloc, kind, &bytes)? {
         return Err(Stop::error(format!(in call.alloc; "the readers differ")));
     }
-    Ok(told)
+    if refused == 0 {
+        return Ok(told);
+    }
+    Object::of(call.alloc, told)
+        .with("refused", count(call.alloc, refused))
+        .into_answer()
 }
 
 fn kind(call: Arguments<'_>) -> Result<Kind, Stop> {
@@ -42,15 +48,15 @@ fn kind(call: Arguments<'_>) -> Result<Kind, Stop> {
     }
 }
 
-// What a reader gives of the pieces.
-fn fed(alloc: Global, kind: Kind, pieces: &[&[u8]]) -> Answer {
+// What a reader gives of the pieces; one more is refused where memory runs out for it.
+fn fed(alloc: Global, kind: Kind, pieces: &[&[u8]], refused: &mut u64) -> Answer {
     let mut reader = match kind {
         Kind::Requests => Reader::requests(alloc),
         Kind::Replies => Reader::replies(alloc),
     };
     let mut feed = begun(alloc);
     for piece in pieces {
-        feed = with_piece(alloc, &mut reader, feed, piece)?;
+        feed = with_piece(alloc, &mut reader, feed, piece, refused)?;
     }
     match feed.fault {
         Some(_) => told(alloc, feed, reader.feed(alloc, b"").err()),
@@ -120,7 +126,13 @@ fn cuts(call: Arguments<'_>) -> Result<Vec<u64>, Stop> {
 }
 
 // Feeds a piece. Each message takes at least a byte.
-fn with_piece(alloc: Global, reader: &mut Reader, feed: Feed, piece: &[u8]) -> Result<Feed, Stop> {
+fn with_piece(
+    alloc: Global,
+    reader: &mut Reader,
+    feed: Feed,
+    piece: &[u8],
+    refused: &mut u64,
+) -> Result<Feed, Stop> {
     let mut feed = feed;
     let mut left = piece;
     for _ in piece {
@@ -128,7 +140,7 @@ fn with_piece(alloc: Global, reader: &mut Reader, feed: Feed, piece: &[u8]) -> R
             break;
         }
         let used;
-        (feed, used) = with_message(alloc, reader, feed, left)?;
+        (feed, used) = with_message(alloc, reader, feed, left, refused)?;
         left = left.get(used..).unwrap_or(b"");
     }
     Ok(feed)
@@ -140,11 +152,32 @@ fn with_message(
     reader: &mut Reader,
     feed: Feed,
     piece: &[u8],
+    refused: &mut u64,
 ) -> Result<(Feed, usize), Stop> {
-    match reader.feed(alloc, piece) {
+    match fed_with(alloc, reader, piece, refused)? {
         Ok((message, used)) => Ok((given(alloc, feed, message, used), used)),
         Err(HttpFault::Memory) => Err(Stop::Memory),
         Err(fault) => Ok((faulty(feed, fault), 0)),
+    }
+}
+
+// What the reader gives of a piece. Where memory runs out for it, the reader has to keep as much as before, and is fed it once more.
+fn fed_with(
+    alloc: Global,
+    reader: &mut Reader,
+    piece: &[u8],
+    refused: &mut u64,
+) -> Result<Result<(Option<Message>, usize), HttpFault>, Stop> {
+    let held = reader.held();
+    match reader.feed(alloc, piece) {
+        Err(HttpFault::Memory) => {
+            *refused = refused.saturating_add(1);
+            if reader.held() != held {
+                return Err(Stop::error(format!(in alloc; "kept otherwise")));
+            }
+            Ok(reader.feed(alloc, piece))
+        }
+        fed => Ok(fed),
     }
 }
 

@@ -3,15 +3,23 @@
 use fed_app::{InboxSetup, SetupFault};
 use fed_http::Field;
 use fed_inbox::{Inbox, Reply, Taken};
-use fed_json::{Items, Json};
+use fed_json::Items;
 use fed_replies::{ListStore, PackedStore, ReplyStore};
-use fed_vectors_call::{Answer, Arguments, List, Object, Stop, number, text_of_bytes};
+use fed_vectors_call::{Answer, Arguments, List, Object, Stop, again, number, text_of_bytes};
 use fed_vectors_events::KeyRing;
 use fed_vectors_events::events::whole_events;
 use std::alloc::Global;
 
-/// What an inbox answers to the requests, and what it took: the same, whether it keeps its replies as they are or packed.
+/// What an inbox answers to the requests, and what it took, where it keeps its replies in the store that the call names; where it names
+/// none, the same of both stores.
 pub fn inbox(call: Arguments<'_>) -> Answer {
+    if call.find("store").is_some() {
+        return match call.text("store")? {
+            "list" => told_over(call, ListStore::new(call.alloc)),
+            "packed" => told_over(call, PackedStore::new(call.alloc)),
+            _ => Err(call.wrong_kind("store")),
+        };
+    }
     let told = told_over(call, ListStore::new(call.alloc))?;
     if told != told_over(call, PackedStore::new(call.alloc))? {
         return Err(Stop::error(format!(in call.alloc; "the stores differ")));
@@ -28,7 +36,9 @@ fn told_over<S: ReplyStore + Drop>(call: Arguments<'_>, store: S) -> Answer {
     } = setup(call)?;
     let mut inbox = Inbox::new(call.alloc, own, servers, rooms, store)?;
     let answers = answers(call, &mut inbox)?;
-    with_taken(call, answers, &inbox)
+    Object::of(call.alloc, taken(call, &inbox)?)
+        .with("answers", Ok(answers))
+        .into_answer()
 }
 
 /// The server `own`, the servers that it takes from, and its rooms.
@@ -42,8 +52,8 @@ pub(crate) fn setup(call: Arguments<'_>) -> Result<InboxSetup, Stop> {
     }
 }
 
-// The answers, and what was taken from each server.
-fn with_taken<S: ReplyStore>(call: Arguments<'_>, answers: Json, inbox: &Inbox<S>) -> Answer {
+// What was taken from each server.
+fn taken<S: ReplyStore>(call: Arguments<'_>, inbox: &Inbox<S>) -> Answer {
     let mut pdus = Object::new(call.alloc);
     let mut edus = Object::new(call.alloc);
     for server in &call.strings("servers")? {
@@ -51,7 +61,6 @@ fn with_taken<S: ReplyStore>(call: Arguments<'_>, answers: Json, inbox: &Inbox<S
         edus = edus.with(server, taken_texts(call.alloc, inbox.taken_edus(server)));
     }
     Object::new(call.alloc)
-        .with("answers", Ok(answers))
         .with("taken", pdus.into_answer())
         .with("taken_edus", edus.into_answer())
         .into_answer()
@@ -62,7 +71,7 @@ fn answers<S: ReplyStore>(call: Arguments<'_>, inbox: &mut Inbox<S>) -> Answer {
     let mut answers = List::new(call.alloc);
     for item in call.items("requests")? {
         let request = Arguments::of(call.alloc, item, "requests")?;
-        answers = answers.with(answer(request, inbox, &keys));
+        answers = answers.with(answer_once_more(call, request, inbox, &keys));
     }
     answers.into_answer()
 }
@@ -76,6 +85,23 @@ fn answer<S: ReplyStore>(request: Arguments<'_>, inbox: &mut Inbox<S>, keys: &Ke
     }
     let fresh = whole_events(request.alloc, &inbox.fresh());
     told.with("fresh", fresh).into_answer()
+}
+
+// The answer to a request; to one that memory runs out for, when it has come once more.
+fn answer_once_more<S: ReplyStore>(
+    call: Arguments<'_>,
+    request: Arguments<'_>,
+    inbox: &mut Inbox<S>,
+    keys: &KeyRing,
+) -> Answer {
+    let first = answer(request, inbox, keys)?;
+    if first.root().member("status").and_then(|it| it.whole()) != Some(500) {
+        return Ok(first);
+    }
+    let refused = Object::of(call.alloc, taken(call, inbox)?)
+        .with("answer", Ok(first))
+        .into_answer();
+    again(call.alloc, refused, answer(request, inbox, keys))
 }
 
 fn reply<S: ReplyStore>(
