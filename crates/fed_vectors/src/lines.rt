@@ -1,6 +1,6 @@
 // From the line of a call to the line of its answer.
 
-use fed_json::{Json, MAX_LEVELS, canonical, read_within};
+use fed_json::{Json, JsonFault, MAX_LEVELS, canonical, read_within};
 use fed_vectors_call::{Answer, Arguments, Object, Stop};
 use fed_vectors_events::{events, signatures, values};
 use fed_vectors_rooms::{rooms, table_rooms};
@@ -33,6 +33,7 @@ fn holding(alloc: Global, name: &str, value: Json) -> Result<Vec<u8>, Stop> {
 fn answer(alloc: Global, line: &[u8]) -> Answer {
     let object = match read_within(alloc, line, MAX_LEVELS) {
         Ok(object) => object,
+        Err(JsonFault::Memory) => return Err(Stop::Memory),
         Err(fault) => return Err(Stop::wrong(format!(in alloc; "{fault}"))),
     };
     let call = Arguments::of(alloc, object.root(), "line")?;
