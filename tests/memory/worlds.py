@@ -15,14 +15,13 @@ or where memory for a world's beginning is refused, and `fed: out of memory` is 
 takes memory, or none shows a 500.
 """
 import itertools
-import os
 import pathlib
 import re
-import subprocess
 import sys
 import tempfile
 
-HERE = pathlib.Path(__file__).resolve().parent
+from refusing import HERE, Program
+
 FED = HERE.parent.parent / "crates" / "fed"
 
 # The steps that take memory.
@@ -92,25 +91,6 @@ def steps_of(script):
 def later(line, packet):
     """A command or what it prints, where all packets from this one on have numbers that are one greater."""
     return re.sub(r"^(arrive|answer|packet) (\d+)", lambda it: f"{it[1]} {int(it[2]) + (int(it[2]) >= packet)}", line)
-
-
-class Program:
-    def __init__(self, path, folder, *words):
-        self.words, self.folder, self.numbers, self.runs = [path, *words], folder, itertools.count(1), 0
-        self.shim = folder / "refuse.so"
-        subprocess.run(["cc", "-shared", "-fPIC", "-O1", "-o", self.shim, HERE / "refuse.c", "-ldl"], check=True)
-
-    def run(self, commands, at):
-        """Its lines, its status, what it told of faults, and whether an allocation was refused."""
-        self.runs = next(self.numbers)
-        log = self.folder / f"refused-{self.runs}"
-        env = dict(os.environ, LD_PRELOAD=str(self.shim), REFUSE_AT=str(at), REFUSE_LOG=str(log))
-        text = "".join(f"{it}\n" for it in commands)
-        try:
-            done = subprocess.run(self.words, input=text, env=env, capture_output=True, text=True, timeout=60)
-        except subprocess.TimeoutExpired:
-            sys.exit(f"allocation {at} of a run was refused, and it does not end: {commands}")
-        return done.stdout.splitlines(), done.returncode, done.stderr, log.exists()
 
 
 def front_of(lines, want):
