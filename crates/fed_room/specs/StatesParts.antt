@@ -8,8 +8,6 @@ use Rattle.fed_room_contract.specs.State.{StateMap}
 use Rattle.fed_room_contract.specs.Steps.{state_at}
 use Rattle.fed_room.specs.declared.after.After.{After}
 use Rattle.fed_room.specs.declared.after.After.TheVariants.{Same, Laid, Whole}
-use Rattle.fed_room.specs.declared.before.Before.{Before}
-use Rattle.fed_room.specs.declared.before.Before.TheVariants as before
 use Rattle.fed_room.specs.declared.resolved.Resolved.{Resolved}
 use Rattle.fed_room.specs.declared.resolved.Resolved.TheVariants.{Kept, Made}
 
@@ -31,15 +29,6 @@ IsThere (Made state) = ⊤
 abbrev pub IsKeptIn : List StateMap → Resolved → Type 0
 IsKeptIn kept (Kept states place) = (states.now.after ≡ kept) × (place < length kept)
 IsKeptIn kept (Made state) = ⊤
-
--- the state that a `Before` stands for, beside these states
-abbrev pub before_seen : List StateMap → Before → StateMap
-before_seen states (before.Kept place) = state_at states place
-before_seen states (before.Made state) = state
-
-abbrev pub IsThereBefore : List StateMap → Before → Type 0
-IsThereBefore states (before.Kept place) = place < length states
-IsThereBefore states (before.Made state) = ⊤
 
 -- the one state at these places
 pub record IsOne (states : List StateMap) (places : List ℕ) (place : ℕ) : Type 0 where

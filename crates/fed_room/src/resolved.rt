@@ -4,10 +4,9 @@ ghost use Rattle.fed_resolve.specs.Resolution.{resolved_of};
 ghost use Rattle.fed_room_contract.specs.State.{StateMap};
 ghost use Rattle.fed_room_contract.specs.StateRef.{seen as ref_seen};
 ghost use Rattle.fed_room.specs.States.{state_with};
-ghost use Rattle.fed_room.specs.StatesParts.{at_places, seen, before_seen, after_seen, IsThere, IsThereBefore, IsThereIn, IsKeptIn, IsOne};
+ghost use Rattle.fed_room.specs.StatesParts.{at_places, seen, after_seen, IsThere, IsThereIn, IsKeptIn, IsOne};
 
 use crate::after::After;
-use crate::before::Before;
 use crate::decision::state_with;
 use fed_event::Checked;
 use fed_json::NoMemory;
@@ -41,17 +40,6 @@ impl Resolved<'_> {
         match self {
             Resolved::Kept(states, place) => states.copy(alloc, *place),
             Resolved::Made(state) => state.copy(alloc),
-        }
-    }
-
-    /// The state, apart from where it is kept.
-    pub(crate) fn before(&self, alloc: Global) -> Result<Before, NoMemory>
-        ensures there { (states : List StateMap) → IsKeptIn states self.now → IfOk result (IsThereBefore states) }
-        ensures state { (states : List StateMap) → IsKeptIn states self.now → IfOk result (λ before. before_seen states before ≡ seen self.now) }
-    {
-        match self {
-            Resolved::Kept(_, place) => Ok(Before::Kept(*place)),
-            Resolved::Made(state) => Ok(Before::Made(state.copy(alloc)?)),
         }
     }
 

@@ -95,7 +95,8 @@ impl RoomEngine for TableRoom {
     }
 
     fn commit(&mut self, prepared: Prepared) -> EventId {
-        let (event, id) = prepared.into_event();
+        let (event, before, id) = prepared.into_parts();
+        drop(before);
         if !self.store.graph().contains(id.as_str()) {
             self.store.store(event, Verdict::Accepted);
         }
