@@ -8,16 +8,15 @@ use Rattle.std.proofs.lemmas.Slice.Eq.{bytes_eq-Decides}
 use Rattle.std.proofs.Math.Nat.{min-le_left, min-le_right}
 use Rattle.std.proofs.Math.ListN.{get_or-append}
 use Rattle.std.proofs.Math.Seq.{get_or-append_seam, take-append_seam}
-use Rattle.std.specs.Prelude.{⊤, IfSome, string_bytes, bytes_eq}
+use Rattle.std.specs.Prelude.{⊤, string_bytes, bytes_eq}
 use Rattle.std.specs.Int.Bits.{bit_and, bit_or}
 use Rattle.std.specs.FinMap as finite
 use Rattle.fed_room_contract.specs.State.{StateKey, StateMap, key_cmp, entry_at, with_entry}
 use Rattle.fed_room_contract.specs.Steps.{state_at}
-use Rattle.fed_room_contract.specs.StepParts.{step_state, states_behind, states_of, is_root, is_root_at, base_of, base_at, bits_of, bits_at, bit_of, tag_of, IsRootOf, IsLower, AreSteps, IsSharedOf}
+use Rattle.fed_room_contract.specs.StepParts.{step_state, states_behind, states_of, is_root, is_root_at, base_of, base_at, bits_of, bits_at, bit_of, tag_of, IsRootOf, IsLower, AreSteps}
 use Rattle.fed_room_contract.specs.declared.step.Laid.{Laid as LaidEntry}
 use Rattle.fed_room_contract.specs.declared.step.Step.{Step}
 use Rattle.fed_room_contract.specs.declared.step.Step.TheVariants.{Same, Laid, Whole}
-use Rattle.fed_room_contract.specs.declared.steps.Shared.{Shared}
 use Rattle.fed_room_contract.proofs.States.{entry_at-same, entry_at-other}
 
 -- ---- one state for each step
@@ -162,17 +161,6 @@ more-steps steps step are lower place other e = by (cases_lt place (length steps
         slice_get-get_or (steps ++ step ∷ []) (length steps) step (omega (arith, more)) ∙ ap (λ (s : Step). Some s) (get_or-append_seam steps step [] step) in
         let one : other ≡ step = let both = sym e ∙ ap (slice_get (steps ++ step ∷ [])) here ∙ there in cc in
         subst (λ n. IsLower (take n (steps ++ step ∷ [])) other) (sym here) (subst (λ front. IsLower front other) (sym (take-append_seam steps (step ∷ []))) (subst (IsLower steps) (sym one) lower))
-
--- what is whole stays the state at its place
-pub shared-stays : (steps : List Step) (step : Step) (o : Option Shared) → IfSome o (IsSharedOf steps) → IfSome o (IsSharedOf (steps ++ step ∷ []))
-shared-stays steps step None whole = tt
-shared-stays steps step (Some s) whole =
-    let within = whole.within in
-    let more = length-append steps (step ∷ []) in
-    let same = count steps in
-    let before : state_at (states_of (steps ++ step ∷ [])) s.place ≡ state_at (states_of steps) s.place =
-    ap (λ states. state_at states s.place) (pushed steps step) ∙ get_or-append (states_of steps) (step_state (states_of steps) step ∷ []) finite.empty s.place (omega (arith, within, same)) in
-    record { within = omega (arith, within, more); state = whole.state ∙ sym before }
 
 -- ---- what a step names
 

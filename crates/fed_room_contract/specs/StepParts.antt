@@ -1,6 +1,5 @@
 -- How states are kept by earlier ones, for the clauses of private functions.
 use Rattle.std.specs.Prelude.{◌≡◌, ◌<◌, ◌≤◌, ◌+◌, ◌%◌, ◌^◌, ◌++◌, ◌∷◌, [], ℕ, ⊤, List, Bool, true, false, Some, IfSome, length, take, slice_get, option_map, unwrap_or, vec_len, vec_capacity, string_bytes}
-use Rattle.std.specs.Arc.{arc_value}
 use Rattle.std.specs.Int.Bits.{bit_or}
 use Rattle.fed_room_contract.specs.State.{StateMap, with_entry}
 use Rattle.fed_room_contract.specs.Steps.{KeptStates, state_at}
@@ -8,7 +7,6 @@ use Rattle.fed_room_contract.specs.Tags.{tag_of_text}
 use Rattle.fed_room_contract.specs.declared.step.Laid.{Laid as LaidEntry}
 use Rattle.fed_room_contract.specs.declared.step.Step.{Step}
 use Rattle.fed_room_contract.specs.declared.step.Step.TheVariants.{Same, Laid, Whole}
-use Rattle.fed_room_contract.specs.declared.steps.Shared.{Shared}
 use Rattle.fed_room_contract.specs.declared.steps.Steps.TheInside.{Inside}
 
 -- the state that a step is, behind these states
@@ -97,13 +95,7 @@ AreSteps steps = (place : ℕ) (step : Step) → slice_get steps place ≡ Some 
 abbrev pub kept_of : Inside → KeptStates
 kept_of s = record { after = states_of s.steps.items; next = option_map (step_state (states_of s.steps.items)) s.next }
 
--- a whole state is the one at its place
-pub record IsSharedOf (steps : List Step) (shared : Shared) : Type 0 where
-  pub within : shared.place < length steps
-  pub state : arc_value shared.state ≡ state_at (states_of steps) shared.place
-
 pub record HoldsTogether (s : Inside) : Type 0 where
   pub steps : AreSteps s.steps.items
   pub next : IfSome s.next (λ step. IsLower s.steps.items step)
   pub room : IfSome s.next (λ _. vec_len s.steps < vec_capacity s.steps)
-  pub shared : IfSome s.shared (IsSharedOf s.steps.items)

@@ -1,5 +1,4 @@
 // The states of a room, each kept by an earlier one.
-ghost use Rattle.std.specs.Arc.{arc_value};
 ghost use Rattle.std.specs.Prelude.{◌≡◌, ◌∷◌, ◌++◌, [], ◌<◌, length, IfOk, IfSome, IsSome, OnOk, OnErr, None, Some, true, option_map};
 ghost use Rattle.fed_room_contract.specs.State.{entry_at, with_entry};
 ghost use Rattle.fed_room_contract.specs.Steps.{state_at};
@@ -11,25 +10,16 @@ use fed_event::EventId;
 use fed_json::NoMemory;
 use std::alloc::Global;
 use std::marker::Model;
-use std::sync::Arc;
 
 /// States one after another, and the next one, where it is made already. Each is kept as the same as an earlier one, as an earlier one with
 /// one entry laid over, or whole. A look-up passes at most 32 others before it comes to a whole one, and mostly none: each entry knows by a
-/// word of bits what may be laid below it. The state that was shared last is there whole too.
+/// word of bits what may be laid below it.
 ///
 /// Contracts see it as these states.
 #[derive(Drop)]
 pub struct Steps {
     steps: Vec<Step>,
     next: Option<Step>,
-    shared: Option<Shared>,
-}
-
-// The state at a place, whole.
-#[derive(Drop)]
-struct Shared {
-    place: usize,
-    state: Arc<State>,
 }
 
 impl Model for Steps {
@@ -53,7 +43,6 @@ impl Steps {
         Steps {
             steps: Vec::new(alloc),
             next: None,
-            shared: None,
         }
     }
 
@@ -74,28 +63,6 @@ impl Steps {
         ensures { IfOk result (λ state. state ≡ state_at self.now.after place) }
     {
         copy_at(alloc, &self.steps, place)
-    }
-
-    /// The state at a place, to share. Where it is kept as one with the one that was shared last, nothing is copied.
-    ///
-    /// # Errors
-    ///
-    /// `NoMemory`.
-    pub fn share(&mut self, alloc: Global, place: usize) -> Result<Arc<State>, NoMemory>
-        requires { place < length self.old.after }
-        ensures same { self.new ≡ self.old }
-        ensures state { IfOk result (λ state. arc_value state ≡ state_at self.old.after place) }
-    {
-        let place = root(&self.steps, place);
-        if let Some(shared) = &self.shared
-            && shared.place == place
-        {
-            return Arc::try_clone(&shared.state);
-        }
-        let state = Arc::new(alloc, copy_at(alloc, &self.steps, place)?)?;
-        let kept = Arc::try_clone(&state)?;
-        self.shared = Some(Shared { place, state: kept });
-        Ok(state)
     }
 
     /// Whether the states at two places are kept as one. States that are not may be equal too.
