@@ -55,12 +55,7 @@ pub fn waiting(call: Arguments<'_>) -> Answer {
 }
 
 // What becomes of the last one of the events.
-fn receive_all(
-    call: Arguments<'_>,
-    keys: &KeyRing,
-    room: &mut Room,
-    refused: &mut u64,
-) -> Answer {
+fn receive_all(call: Arguments<'_>, keys: &KeyRing, room: &mut Room, refused: &mut u64) -> Answer {
     let parts = call.get("parts")?;
     let mut last = null(call.alloc)?;
     for date in 0..call.whole("count")? {
