@@ -3,9 +3,10 @@
 
     tests/memory/calls.py [PROGRAM]
 
-The calls are a transaction that is written, one inbox over each store of replies, an outbox of 120 events and 30 EDUs, a request that is read in
-pieces and the reply to it, and a room that lets events wait. The program makes an operation that memory runs out for once more, and tells what was
-to be seen in between (docs/VECTORS.md, "Lines"). It fails unless in each run
+The calls are a transaction that is written, an inbox over each store of replies, one that is asked for another path, an outbox of 120 events and 30
+EDUs, a request that is read in pieces, and a room that receives events, lets them wait and stores what is ready; of a room with a thousand that wait, for
+which a run takes long, only the last hundred allocations are refused. The program makes an operation that memory runs out for once more, and tells
+what was to be seen in between (docs/VECTORS.md, "Lines"). It fails unless in each run
 
 - the call answers `out of memory`, or the program ends so, where it has none for the line or for what it prints; or
 - what was to be seen after the refusal is what was to be seen before the operation, the operation made again answers as is written here, and so
@@ -192,6 +193,14 @@ def inbox(store):
     return InboxCall(of, "requests", requests, [it[3] for it in rows], seen)
 
 
+def other_path():
+    """A request for another path, which is answered without memory."""
+    of = {"call": "inbox", "own": "b", "servers": ["a"], "rooms": [], "keys": "trusting"}
+    request = {"fields": [["Host", "b"]], "method": "GET", "target": "/x", "text": ""}
+    answer = {"body": text({"errcode": "M_UNRECOGNIZED", "error": "no such path"}), "fresh": [], "status": 404}
+    return InboxCall(of, "requests", [request], [answer], {"taken": {"a": []}, "taken_edus": {"a": []}})
+
+
 def outbox():
     """120 events and 30 EDUs, each transaction settled."""
     message, _ = event("m.x", {}, {}, [], [])
@@ -236,6 +245,8 @@ def main():
         made_twice(program, "a transaction", text(written), {"ok": body})
         for store in ("list", "packed"):
             takes_memory(program, inbox(store), [0, 1, 2, 3, 5, 6, 7, 8])
+        if refused_in_turn(program, other_path()):
+            sys.exit("another path: it took memory to tell")
         takes_memory(program, outbox(), [0, 120])
         request = {"call": "stream", "kind": "requests", "text": "GET /x HTTP/1.1\r\nHost: b\r\n\r\n"}
         message = {"body": "", "end": 28, "fields": [["Host", "b"]], "method": "GET", "target": "/x"}
@@ -247,7 +258,7 @@ def main():
             sys.exit("a room: no run gave it an event once more")
         # What is dropped takes no memory, and is seen among the last allocations.
         made_once_more(program, "a full room", many, told_of_many, newest=100)
-        print(f"{program.runs} runs: each allocation of a transaction, two inboxes, an outbox, a request and a room refused")
+        print(f"{program.runs} runs: each allocation of a transaction, inboxes, an outbox, a request and a room refused")
 
 
 if __name__ == "__main__":
