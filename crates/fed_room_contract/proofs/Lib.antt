@@ -1,7 +1,9 @@
 pub mod Filled
 pub mod TextUpdates
 pub mod States
+pub mod Changes
 pub mod KeptSteps
+pub mod Heads
 pub mod Positions
 pub mod Graphs
 pub mod PlaceMaps

@@ -134,6 +134,46 @@ entry_at-other s kind key id other apart = finite.get-insert key_cmp_total s (ki
     by true t = absurd (apart (key_cmp_same other (kind, key) (tied _ t)))
     by false t = refl
 
+-- ---- an entry that is taken away
+
+pub flattened-remove_at : (m : TextMap Ids) (kind key : List ℕ) (ids : Ids) → finite.get m kind ≡ Some ids
+    → flattened (finite.insert m kind (finite.remove ids key)) ≡ finite.remove (flattened m) (kind, key)
+flattened-remove_at m kind key ids h =
+    same_state _ _ (λ k s.
+    entry_at-flattened (finite.insert m kind (finite.remove ids key)) k s
+    ∙ ap (option_and_then (at s)) (finite.get-insert nat_list_cmp_total m kind (finite.remove ids key) k)
+    ∙ by_kind k s (eq_by_cmp order k kind) refl
+    ∙ ap (λ t. cond t None (entry_at (flattened m) k s)) (tied_then (order k kind) (order s key))
+    ∙ sym (finite.get-remove key_cmp_total (flattened m) (kind, key) (k, s)))
+  where
+    by_kind : (k s : List ℕ) (b : Bool) → is_eq (order k kind) ≡ b
+        → option_and_then (at s) (cond b (Some (finite.remove ids key)) (finite.get m k)) ≡ cond (is_eq (order k kind) && is_eq (order s key)) None (entry_at (flattened m) k s)
+    by_kind k s true t =
+        finite.get-remove nat_list_cmp_total ids key s
+        ∙ ap (cond (eq_by_cmp order s key) None) (ap (option_and_then (at s)) (sym h ∙ finite.get_tied nat_list_cmp_total m k kind (tied _ t)) ∙ sym (entry_at-flattened m k s))
+        ∙ ap (λ b. cond (b && is_eq (order s key)) None (entry_at (flattened m) k s)) (sym t)
+    by_kind k s false t = sym (entry_at-flattened m k s) ∙ ap (λ b. cond (b && is_eq (order s key)) None (entry_at (flattened m) k s)) (sym t)
+
+pub flattened-remove_none : (m : TextMap Ids) (kind key : List ℕ) → finite.get m kind ≡ None → flattened m ≡ finite.remove (flattened m) (kind, key)
+flattened-remove_none m kind key h = same_state _ _ (λ k s. by k s (eq_by_cmp key_cmp (k, s) (kind, key)) refl ∙ sym (finite.get-remove key_cmp_total (flattened m) (kind, key) (k, s)))
+  where
+    none : entry_at (flattened m) kind key ≡ None
+    none = entry_at-flattened m kind key ∙ ap (option_and_then (at key)) h
+
+    by : (k s : List ℕ) (b : Bool) → eq_by_cmp key_cmp (k, s) (kind, key) ≡ b → entry_at (flattened m) k s ≡ cond b None (entry_at (flattened m) k s)
+    by k s true t = sym (finite.get_tied key_cmp_total (flattened m) (k, s) (kind, key) (tied _ t)) ∙ none
+    by k s false t = refl
+
+pub removed-same : (s : StateMap) (kind key : List ℕ) → entry_at (finite.remove s (kind, key)) kind key ≡ None
+removed-same s kind key = finite.get-remove key_cmp_total s (kind, key) (kind, key) ∙ ap (λ (o : Ordering). cond (is_eq o) None (entry_at s kind key)) (tied_itself key_cmp_total (kind, key))
+
+pub removed-other : (s : StateMap) (key other : StateKey) → other ≢ key → finite.get (finite.remove s key) other ≡ finite.get s other
+removed-other s key other apart = finite.get-remove key_cmp_total s key other ∙ by (eq_by_cmp key_cmp other key) refl
+  where
+    by : (b : Bool) → eq_by_cmp key_cmp other key ≡ b → cond b None (finite.get s other) ≡ finite.get s other
+    by true t = absurd (apart (key_cmp_same other key (tied _ t)))
+    by false t = refl
+
 -- ---- the entries in the order of their keys
 
 both : (a b : Bool) → T a → T b → T (a && b)

@@ -3,6 +3,7 @@ pub mod StateParts
 pub mod Entry
 pub mod Steps
 pub mod Tags
+pub mod ChangeParts
 pub mod StepParts
 pub mod StateRef
 pub mod Rule

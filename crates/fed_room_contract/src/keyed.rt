@@ -61,6 +61,13 @@ impl Keyed {
         Ok(())
     }
 
+    /// Takes the entry at the key away, where there is one.
+    pub(crate) fn remove(&mut self, key: &str)
+        ensures { self.new ≡ map.remove self.old key.now }
+    {
+        drop(self.ids.remove(key));
+    }
+
     /// Appends the entries, which are those of this type, in the order of their keys.
     pub(crate) fn append_to<'a>(
         &'a self,

@@ -4,7 +4,9 @@
 //! - `entry`: `Entry`, one of its entries
 //! - `keyed`: those of one type, by state key
 //! - `tag`: numbers by which texts are told apart
+//! - `change`: changes of a state
 //! - `step`, `steps`: `Steps`, states that are kept by earlier ones
+//! - `differing`: where such states differ
 //! - `state_ref`: `StateRef`, a state of either kind, to look up in
 //! - `rule`: `Rule`, the number of an authorization rule
 //! - `verdict`: `Verdict`, what a room makes of an event
@@ -27,6 +29,8 @@
 mod advancing;
 mod applying;
 mod arrival;
+mod change;
+mod differing;
 mod draft;
 mod engine;
 mod entry;

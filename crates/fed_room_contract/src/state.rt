@@ -75,6 +75,15 @@ impl State {
         Ok(())
     }
 
+    /// Takes the entry at a type and state key away, where there is one.
+    pub fn remove(&mut self, kind: &str, state_key: &str)
+        ensures { self.new ≡ map.remove self.old (kind.now, state_key.now) }
+    {
+        if let Some(keyed) = self.kinds.get_mut(kind) {
+            keyed.remove(state_key);
+        }
+    }
+
     /// The entries, in the order of their types and, within a type, of their state keys.
     pub fn entries(&self, alloc: Global) -> Result<Vec<Entry<'_>>, NoMemory>
         ensures { IfOk result (λ entries. map_list seen entries.items ≡ map.entries self.now) }

@@ -1,25 +1,38 @@
 // The states of a room, each kept by an earlier one.
-ghost use Rattle.std.specs.Prelude.{◌≡◌, ◌∷◌, ◌++◌, [], ◌<◌, length, IfOk, IfSome, IsSome, OnOk, OnErr, None, Some, true, option_map};
+ghost use Rattle.std.specs.Arc.{arc_value};
+ghost use Rattle.std.specs.Prelude.{◌≡◌, ◌∷◌, ◌++◌, [], ◌<◌, length, All, IfOk, IfSome, IsSome, OnOk, OnErr, None, Some, true, option_map};
 ghost use Rattle.fed_room_contract.specs.State.{entry_at, with_entry};
-ghost use Rattle.fed_room_contract.specs.Steps.{state_at};
-ghost use Rattle.fed_room_contract.specs.StepParts.{AreSteps, IsLower, states_of, step_state, is_root_at, tag_of as tag_of_key};
+ghost use Rattle.fed_room_contract.specs.Steps.{IsAlikeBut, AreAlikeBut, state_at};
+ghost use Rattle.fed_room_contract.specs.ChangeParts.{IsTagged, with_changes, tag_of as tag_of_key};
+ghost use Rattle.fed_room_contract.specs.StepParts.{AreSteps, IsLower, states_of, step_state, is_root_at};
 
+use crate::change::{Change, bit_of, bits_with, change_at, changes_at, make_all, tag_of};
+use crate::differing::differing;
 use crate::state::State;
-use crate::step::{Laid, MAX_ABOVE, Step, bit_of, tag_of};
+use crate::step::{Laid, MAX_ABOVE, Over, Step, Whole};
 use fed_event::EventId;
 use fed_json::NoMemory;
 use std::alloc::Global;
 use std::marker::Model;
+use std::sync::Arc;
 
 /// States one after another, and the next one, where it is made already. Each is kept as the same as an earlier one, as an earlier one with
-/// one entry laid over, or whole. A look-up passes at most 32 others before it comes to a whole one, and mostly none: each entry knows by a
-/// word of bits what may be laid below it.
+/// changes, or whole. A look-up passes at most 32 others before it comes to a whole one, and mostly none: each of them knows by a word of
+/// bits what may be changed below it. The state that was shared last is there whole too.
 ///
 /// Contracts see it as these states.
 #[derive(Drop)]
 pub struct Steps {
     steps: Vec<Step>,
     next: Option<Step>,
+    shared: Option<Shared>,
+}
+
+// The state at a place, whole.
+#[derive(Drop)]
+struct Shared {
+    place: usize,
+    state: Arc<State>,
 }
 
 impl Model for Steps {
@@ -43,6 +56,7 @@ impl Steps {
         Steps {
             steps: Vec::new(alloc),
             next: None,
+            shared: None,
         }
     }
 
@@ -63,6 +77,41 @@ impl Steps {
         ensures { IfOk result (λ state. state ≡ state_at self.now.after place) }
     {
         copy_at(alloc, &self.steps, place)
+    }
+
+    /// The state at a place, to share. Where it is kept as one with the one that was shared last, nothing is copied.
+    ///
+    /// # Errors
+    ///
+    /// `NoMemory`.
+    pub fn share(&mut self, alloc: Global, place: usize) -> Result<Arc<State>, NoMemory>
+        requires { place < length self.old.after }
+        ensures same { self.new ≡ self.old }
+        ensures state { IfOk result (λ state. arc_value state ≡ state_at self.old.after place) }
+    {
+        let place = root(&self.steps, place);
+        if let Some(shared) = &self.shared
+            && shared.place == place
+        {
+            return Arc::try_clone(&shared.state);
+        }
+        let state = Arc::new(alloc, copy_at(alloc, &self.steps, place)?)?;
+        let kept = Arc::try_clone(&state)?;
+        self.shared = Some(Shared { place, state: kept });
+        Ok(state)
+    }
+
+    /// The types and state keys at which the states at these places may differ, as those of the entries of a state: at all others they
+    /// have the same. What is passed are the changes since these states parted, each once, and no whole state but one that was made of none.
+    ///
+    /// # Errors
+    ///
+    /// `NoMemory`.
+    pub fn differing(&self, alloc: Global, places: &[usize]) -> Result<State, NoMemory>
+        requires { All (λ place. place < length self.now.after) places.now }
+        ensures { IfOk result (λ keys. AreAlikeBut keys self.now.after places.now) }
+    {
+        differing(alloc, &self.steps, places)
     }
 
     /// Whether the states at two places are kept as one. States that are not may be equal too.
@@ -107,8 +156,35 @@ impl Steps {
         ensures ok { OnOk result (self.new ≡ record { after = self.old.after; next = Some (with_entry (state_at self.old.after place) kind.now state_key.now id) }) }
         ensures err { OnErr result (self.new ≡ self.old) }
     {
+        let mut changes = Vec::new(alloc);
+        changes.push(Change::new(alloc, kind, state_key, id, true)?)?;
         self.steps.reserve(1)?;
-        let next = laid(alloc, &self.steps, place, kind, state_key, id)?;
+        let next = step_with(alloc, &self.steps, place, changes)?;
+        self.next = Some(next);
+        Ok(())
+    }
+
+    /// The same with a state that has what the one at the place has, but for the types and state keys at which `keys` has entries: of these
+    /// alone it is kept what the state has.
+    ///
+    /// # Errors
+    ///
+    /// `NoMemory`; then the states are as they were.
+    pub fn set_changed(
+        &mut self,
+        alloc: Global,
+        place: usize,
+        state: &State,
+        keys: &State,
+    ) -> Result<(), NoMemory>
+        requires place { place < length self.old.after }
+        requires alike { IsAlikeBut keys.now (state_at self.old.after place) state.now }
+        ensures ok { OnOk result (self.new ≡ record { after = self.old.after; next = Some state.now }) }
+        ensures err { OnErr result (self.new ≡ self.old) }
+    {
+        let changes = changes_at(alloc, state, keys)?;
+        self.steps.reserve(1)?;
+        let next = step_with(alloc, &self.steps, place, changes)?;
         self.next = Some(next);
         Ok(())
     }
@@ -123,7 +199,7 @@ impl Steps {
         ensures err { OnErr result (self.new ≡ self.old) }
     {
         self.steps.reserve(1)?;
-        self.next = Some(Step::Whole(state));
+        self.next = Some(Step::Whole(Whole { state, over: None }));
         Ok(())
     }
 
@@ -159,13 +235,13 @@ fn find<'a>(
             Step::Laid(laid) => {
                 if laid.bits & bit == 0 {
                     place = laid.base;
-                } else if laid.is_at(tag, kind, state_key) {
-                    return Some(&laid.id);
+                } else if let Some(change) = change_at(&laid.over.changes, tag, kind, state_key) {
+                    return change.id();
                 } else {
-                    place = laid.parent;
+                    place = laid.over.parent;
                 }
             }
-            Step::Whole(state) => return state.get(kind, state_key),
+            Step::Whole(whole) => return whole.state.get(kind, state_key),
         }
     }
     None
@@ -180,12 +256,11 @@ fn copy_at(alloc: Global, steps: &[Step], place: usize) -> Result<State, NoMemor
     match &steps[place] {
         Step::Same { parent } => copy_at(alloc, steps, *parent),
         Step::Laid(laid) => {
-            let mut state = copy_at(alloc, steps, laid.parent)?;
-            let id = laid.id.copy(alloc)?;
-            state.insert(alloc, laid.kind.as_str(), laid.state_key.as_str(), id)?;
+            let mut state = copy_at(alloc, steps, laid.over.parent)?;
+            make_all(alloc, &laid.over.changes, &mut state)?;
             Ok(state)
         }
-        Step::Whole(state) => state.copy(alloc),
+        Step::Whole(whole) => whole.state.copy(alloc),
     }
 }
 
@@ -203,36 +278,35 @@ fn root(steps: &[Step], place: usize) -> usize
     }
 }
 
-// The state at a place with an entry laid over: whole, where as many as may be are laid over a whole one there.
-fn laid(
+// The state at a place with changes: whole, where more would be laid over a whole one than may be.
+fn step_with(
     alloc: Global,
     steps: &[Step],
     place: usize,
-    kind: &str,
-    state_key: &str,
-    id: EventId,
+    changes: Vec<Change>,
 ) -> Result<Step, NoMemory>
     requires steps { AreSteps steps.now }
     requires within { place < length steps.now }
+    requires tags { All IsTagged changes.items }
     ensures lower { IfOk result (λ step. IsLower steps.now step) }
-    ensures state { IfOk result (λ step. step_state (states_of steps.now) step ≡ with_entry (state_at (states_of steps.now) place) kind.now state_key.now id) }
+    ensures state { IfOk result (λ step. step_state (states_of steps.now) step ≡ with_changes (state_at (states_of steps.now) place) changes.items) }
 {
     let parent = root(steps, place);
-    let below = &steps[parent];
-    if below.above() >= MAX_ABOVE {
-        let mut state = copy_at(alloc, steps, parent)?;
-        state.insert(alloc, kind, state_key, id)?;
-        return Ok(Step::Whole(state));
+    if changes.is_empty() {
+        return Ok(Step::Same { parent });
     }
-    let tag = tag_of(kind, state_key);
+    let below = &steps[parent];
+    let (above, count) = (below.above(), changes.len());
+    if above >= MAX_ABOVE || count > MAX_ABOVE - above {
+        let mut state = copy_at(alloc, steps, parent)?;
+        make_all(alloc, &changes, &mut state)?;
+        let over = Some(Over { parent, changes });
+        return Ok(Step::Whole(Whole { state, over }));
+    }
     Ok(Step::Laid(Laid {
-        parent,
         base: below.base(parent),
-        above: below.above() + 1,
-        bits: below.bits() | bit_of(tag),
-        tag,
-        kind: String::from_str(alloc, kind)?,
-        state_key: String::from_str(alloc, state_key)?,
-        id,
+        above: above + count,
+        bits: bits_with(below.bits(), &changes),
+        over: Over { parent, changes },
     }))
 }

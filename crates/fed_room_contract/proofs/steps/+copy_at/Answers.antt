@@ -1,7 +1,7 @@
 use Rattle.std.proofs.Common.{Some, refl, sym, ap, ◌∙◌, arith}
 use Rattle.std.proofs.lemmas.Option.{slice_get_read}
 use Rattle.std.proofs.lemmas.Result.{IfOk-weaker}
-use Rattle.fed_room_contract.specs.State.{with_entry}
+use Rattle.fed_room_contract.specs.ChangeParts.{with_changes}
 use Rattle.fed_room_contract.specs.declared.step.Step.{Step}
 use Rattle.fed_room_contract.specs.declared.step.Step.TheVariants.{Same, Laid, Whole}
 use Rattle.fed_room_contract.proofs.KeptSteps.{at-step, parent-before, laid-before, same-root, laid-root}
@@ -27,17 +27,14 @@ returns-in-Same t c =
     let there = slice_get_read steps _ c.args.place c.index-steps-place.result refl c.requires.within c.index-steps-place.is ∙ ap (λ (s : Step). Some s) c.in-Same.is in
     IfOk-weaker c.copy_at.result _ _ (λ state same. same ∙ sym (at-step steps c.args.place (Same c.in-Same.parent) c.requires.steps there)) c.copy_at.ensures
 
-pub returns-in_ok-insert-in-Laid : goal.returns-in_ok-insert-in-Laid
-returns-in_ok-insert-in-Laid t c =
+pub returns-in_ok-make_all-in-Laid : goal.returns-in_ok-make_all-in-Laid
+returns-in_ok-make_all-in-Laid t c =
     let steps = c.args.steps.now in
-    let laid = c.in-Laid.laid in
     let there = slice_get_read steps _ c.args.place c.index-steps-place.result refl c.requires.within c.index-steps-place.is ∙ ap (λ (s : Step). Some s) c.in-Laid.is in
-    c.in_ok-insert-in-Laid.ensures.ok
-    ∙ (λ i. with_entry (c.in_ok-state-in-Laid.ensures i) (c.as_str.ensures.value i) (c.as_str-in-Laid.ensures.value i) (c.in_ok-id-in-Laid.ensures i))
-    ∙ sym (at-step steps c.args.place (Laid laid) c.requires.steps there)
+    c.in_ok-make_all-in-Laid.ensures ∙ (λ i. with_changes (c.in_ok-state-in-Laid.ensures i) (c.deref.ensures.value i)) ∙ sym (at-step steps c.args.place (Laid c.in-Laid.laid) c.requires.steps there)
 
 pub returns-in-Whole : goal.returns-in-Whole
 returns-in-Whole t c =
     let steps = c.args.steps.now in
     let there = slice_get_read steps _ c.args.place c.index-steps-place.result refl c.requires.within c.index-steps-place.is ∙ ap (λ (s : Step). Some s) c.in-Whole.is in
-    IfOk-weaker c.copy-in-Whole.result _ _ (λ state same. same ∙ sym (at-step steps c.args.place (Whole c.in-Whole.state) c.requires.steps there)) c.copy-in-Whole.ensures
+    IfOk-weaker c.copy.result _ _ (λ state same. same ∙ sym (at-step steps c.args.place (Whole c.in-Whole.whole) c.requires.steps there)) c.copy.ensures

@@ -1,12 +1,15 @@
-use Rattle.std.proofs.Common.{Some, refl, sym, ap, ◌∙◌}
+use Rattle.std.proofs.Common.{◌≡◌, List, None, Some, All, find, option_map, refl, subst, sym, ap, ◌∙◌}
 use Rattle.std.specs.Int.Bits.{bit_and}
 use Rattle.std.proofs.lemmas.Option.{slice_get_past, slice_get_read}
 use Rattle.fed_room_contract.specs.State.{StateMap, entry_at}
 use Rattle.fed_room_contract.specs.Steps.{state_at}
-use Rattle.fed_room_contract.specs.StepParts.{states_of, bit_of}
+use Rattle.fed_room_contract.specs.ChangeParts.{IsTagged, bit_of, is_change_at}
+use Rattle.fed_room_contract.specs.StepParts.{states_of}
+use Rattle.fed_room_contract.specs.declared.change.Change.{Change}
 use Rattle.fed_room_contract.specs.declared.step.Step.{Step}
 use Rattle.fed_room_contract.specs.declared.step.Step.TheVariants.{Same, Laid, Whole}
-use Rattle.fed_room_contract.proofs.KeptSteps.{at-step, at-none, parent-before, laid-before, found-here, found-below, base-before, passed-laid}
+use Rattle.fed_room_contract.proofs.Changes.{found, found-changes}
+use Rattle.fed_room_contract.proofs.KeptSteps.{at-step, at-none, parent-before, laid-before, base-before, passed-laid}
 use Rattle.fed_room_contract.proofs.steps.find.Goals as goal
 
 pub loop-step-smaller-in-Same : goal.loop-step-smaller-in-Same
@@ -36,20 +39,24 @@ loop-step-preserved-then-laid-bit-eq0 c =
     let none = ap (bit_and laid.bits) (sym bit) ∙ c.if-laid-bit-eq0.true in
     passed-laid steps c.args.kind.now c.args.state_key.now c.loop-step.place laid c.requires.steps there none ∙ c.loop-step.invariant
 
-pub is_at-requires-clause-own : goal.is_at-requires-clause-own
-is_at-requires-clause-own c =
+pub change_at-requires-clause-tags : goal.change_at-requires-clause-tags
+change_at-requires-clause-tags c =
     let steps = c.args.steps.now in
     let there = slice_get_read steps _ c.loop-step.place c.in-Some.step.now refl c.in-Some.ensures.lookup.3.0 c.in-Some.ensures.lookup.1 ∙ ap (λ (s : Step). Some s) c.in-Laid.is in
-    (c.requires.steps c.loop-step.place (Laid c.in-Laid.laid) there).tag
+    subst (All IsTagged) (sym c.deref.ensures.value) (c.requires.steps c.loop-step.place (Laid c.in-Laid.laid) there).tags
 
-pub returns-then-is_at : goal.returns-then-is_at
-returns-then-is_at c =
+pub returns-in-Some-change_at : goal.returns-in-Some-change_at
+returns-in-Some-change_at c =
     let steps = c.args.steps.now in
     let laid = c.in-Laid.laid in
     let there = slice_get_read steps _ c.loop-step.place c.in-Some.step.now refl c.in-Some.ensures.lookup.3.0 c.in-Some.ensures.lookup.1 ∙ ap (λ (s : Step). Some s) c.in-Laid.is in
-    sym (sym c.loop-step.invariant
-    ∙ ap (λ (s : StateMap). entry_at s c.args.kind.now c.args.state_key.now) (at-step steps c.loop-step.place (Laid laid) c.requires.steps there)
-    ∙ found-here (state_at (states_of steps) laid.parent) laid c.args.kind.now c.args.state_key.now (sym c.is_at.ensures ∙ c.if-is_at.true))
+    let kind = c.args.kind.now in
+    let key = c.args.state_key.now in
+    let cs : List Change = laid.over.changes.items in
+    let below : StateMap = state_at (states_of steps) laid.over.parent in
+    let some : find (is_change_at kind key) cs ≡ Some c.in-Some-change_at.change.now = ap (find (is_change_at kind key)) (sym c.deref.ensures.value) ∙ sym c.change_at.ensures ∙ ap (option_map (λ c. c.now)) c.in-Some-change_at.is in
+    c.id.ensures
+    ∙ sym (sym c.loop-step.invariant ∙ ap (λ (s : StateMap). entry_at s kind key) (at-step steps c.loop-step.place (Laid laid) c.requires.steps there) ∙ found-changes below cs kind key ∙ ap (λ o. found o (entry_at below kind key)) some)
 
 pub loop-step-smaller : goal.loop-step-smaller
 loop-step-smaller c =
@@ -62,15 +69,19 @@ loop-step-preserved c =
     let steps = c.args.steps.now in
     let laid = c.in-Laid.laid in
     let there = slice_get_read steps _ c.loop-step.place c.in-Some.step.now refl c.in-Some.ensures.lookup.3.0 c.in-Some.ensures.lookup.1 ∙ ap (λ (s : Step). Some s) c.in-Laid.is in
-    sym (ap (λ (s : StateMap). entry_at s c.args.kind.now c.args.state_key.now) (at-step steps c.loop-step.place (Laid laid) c.requires.steps there)
-    ∙ found-below (state_at (states_of steps) laid.parent) laid c.args.kind.now c.args.state_key.now (sym c.is_at.ensures ∙ c.if-is_at.false))
+    let kind = c.args.kind.now in
+    let key = c.args.state_key.now in
+    let cs : List Change = laid.over.changes.items in
+    let below : StateMap = state_at (states_of steps) laid.over.parent in
+    let none : find (is_change_at kind key) cs ≡ None = ap (find (is_change_at kind key)) (sym c.deref.ensures.value) ∙ sym c.change_at.ensures ∙ ap (option_map (λ c. c.now)) c.in_default-change_at.is in
+    sym (ap (λ (s : StateMap). entry_at s kind key) (at-step steps c.loop-step.place (Laid laid) c.requires.steps there) ∙ found-changes below cs kind key ∙ ap (λ o. found o (entry_at below kind key)) none)
     ∙ c.loop-step.invariant
 
 pub returns-in-Whole : goal.returns-in-Whole
 returns-in-Whole c =
     let steps = c.args.steps.now in
     let there = slice_get_read steps _ c.loop-step.place c.in-Some.step.now refl c.in-Some.ensures.lookup.3.0 c.in-Some.ensures.lookup.1 ∙ ap (λ (s : Step). Some s) c.in-Whole.is in
-    c.get-in-Whole.ensures ∙ sym (ap (λ (s : StateMap). entry_at s c.args.kind.now c.args.state_key.now) (at-step steps c.loop-step.place (Whole c.in-Whole.state) c.requires.steps there)) ∙ c.loop-step.invariant
+    c.get-in-Whole.ensures ∙ sym (ap (λ (s : StateMap). entry_at s c.args.kind.now c.args.state_key.now) (at-step steps c.loop-step.place (Whole c.in-Whole.whole) c.requires.steps there)) ∙ c.loop-step.invariant
 
 pub returns : goal.returns
 returns c =

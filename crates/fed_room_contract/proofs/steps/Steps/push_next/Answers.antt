@@ -1,8 +1,8 @@
-use Rattle.std.proofs.Common.{◌≡◌, ◌<◌, ◌++◌, ◌∷◌, [], Option, None, Some, IfSome, option_map, is_ok, if◌then◌else◌, vec_len, vec_capacity, sym, ap, subst, ◌∙◌}
+use Rattle.std.proofs.Common.{◌≡◌, ◌<◌, ◌++◌, ◌∷◌, [], List, Option, None, Some, IfSome, option_map, is_ok, if◌then◌else◌, vec_len, vec_capacity, sym, ap, subst, ◌∙◌}
 use Rattle.fed_room_contract.specs.Steps.{KeptStates}
-use Rattle.fed_room_contract.specs.StepParts.{states_of, step_state, IsLower, AreSteps}
+use Rattle.fed_room_contract.specs.StepParts.{states_of, step_state, IsLower, AreSteps, IsSharedOf}
 use Rattle.fed_room_contract.specs.declared.step.Step.{Step}
-use Rattle.fed_room_contract.proofs.KeptSteps.{pushed, more-steps}
+use Rattle.fed_room_contract.proofs.KeptSteps.{pushed, more-steps, shared-stays}
 use Rattle.fed_room_contract.proofs.steps.Steps.push_next.Goals as goal
 
 pub invariant_of-self : goal.invariant_of-self
@@ -16,6 +16,7 @@ invariant_of-self c =
       steps = subst AreSteps (sym begun) (more-steps steps step c.self.invariant.steps lower);
       next = subst (λ (o : Option Step). IfSome o (λ s. IsLower c.push.new.self.items s)) (sym c.take.ensures.after) tt;
       room = subst (λ (o : Option Step). IfSome o (λ _. vec_len c.push.new.self < vec_capacity c.push.new.self)) (sym c.take.ensures.after) tt;
+      shared = subst (λ (xs : List Step). IfSome c.self.inside.shared (IsSharedOf xs)) (sym begun) (shared-stays steps step c.self.inside.shared c.self.invariant.shared);
     }
 
 pub returns : goal.returns
