@@ -25,7 +25,7 @@ use Rattle.fed_resolve.proofs.Unconflicteds.{entry-unconflicted}
 abbrev Entry : Type 0
 Entry = StateKey × List ℕ
 
-abbrev IsFoundIn : List Entry → Entry → Type 0
+abbrev pub IsFoundIn : List Entry → Entry → Type 0
 IsFoundIn es e = find key_cmp e.0 es ≡ Some e.1
 
 -- an entry more in front is at another key
@@ -42,7 +42,7 @@ all_still : (P Q : Entry → Type 0) → ((e : Entry) → P e → Q e) → (es :
 all_still P Q f [] all = tt
 all_still P Q f (e ∷ es) all = (f e all.0, all_still P Q f es all.1)
 
-each_found : (es : List Entry) → T (is_sorted key_cmp es) → AllByRecursion (IsFoundIn es) es
+pub each_found : (es : List Entry) → T (is_sorted key_cmp es) → AllByRecursion (IsFoundIn es) es
 each_found [] sorted = tt
 each_found (e ∷ es) sorted =
     (ap (λ r. cond (is_eq r) (Some e.1) (find key_cmp e.0 es)) (tied_itself key_cmp_total e.0), all_still (IsFoundIn es) (IsFoundIn (e ∷ es)) (still_found e es sorted) es (each_found es (second _ _ sorted)))

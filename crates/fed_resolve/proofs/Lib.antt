@@ -27,3 +27,6 @@ pub mod MaskWords
 pub mod EqualStates
 pub mod Turns
 pub mod ReadySets
+pub mod Between
+pub mod Disputes
+pub mod KeysOf

@@ -1,11 +1,11 @@
 -- Words of marks: their bits, and what a walk makes of them.
-use Rattle.std.proofs.Common.{◌≡◌, ◌<◌, ◌≤◌, ◌+◌, ◌-◌, ◌^◌, ℕ, suc, List, [], ◌∷◌, Bool, true, false, true≢false, not, ◌||◌, ◌&&◌, eqb, max, nat_lt, None, Some, Contains, length, set, take, get_or, refl, sym, ap, subst, ◌∙◌, ◌⊎◌, inl, inr, arith}
+use Rattle.std.proofs.Common.{◌≡◌, ◌<◌, ◌≤◌, ◌+◌, ◌-◌, ◌^◌, ℕ, suc, List, [], ◌∷◌, ◌++◌, Bool, true, false, true≢false, not, ◌||◌, ◌&&◌, eqb, max, nat_lt, None, Some, Contains, length, set, take, get_or, refl, sym, ap, subst, ◌∙◌, ◌⊎◌, inl, inr, arith}
 use Rattle.std.specs.List.{list_any, list_all, slice_get, slice_index_or}
 use Rattle.std.specs.Int.{bit_at}
 use Rattle.std.specs.Int.Bits.{bit_or}
 use Rattle.std.proofs.lemmas.Bool.{cases_eq, cases_lt, eq-eqb, ne_eqb, eqb-true, lt-ltb, le-ltb, or_left, true_from_ne_false, false_from_ne_true, not-true, not_from_false}
 use Rattle.std.proofs.lemmas.List.{get_or-map, get_or-set_same, get_or-set_other, get_or_default, length-map, length-set}
-use Rattle.std.proofs.lemmas.List.Folds.{list_any_at, list_any_more}
+use Rattle.std.proofs.lemmas.List.Folds.{list_any-append, list_any_at, list_any_more}
 use Rattle.std.proofs.lemmas.Nat.Bits.{bit_at-zero, bit_at-lt, bit_at_or, bit_at-pow_same, bit_at-pow_other, bit_at_ones, bit_at_ones_above, same_from_bits}
 use Rattle.std.proofs.lemmas.Option.{slice_get_cases, slice_get_past}
 use Rattle.fed_event.specs.Tests.{holds}
@@ -216,6 +216,35 @@ module _ {X : Type 0} (events : List Stored) (places : X → List ℕ) (xs : Lis
           ap (λ t. (t && auth bit q) || (has_bit bit bits && own q)) (le-ltb bit i more)
           ∙ ap (λ t. t && own q) (ap (λ k. eqb k 1) (ap (λ w. bit_at w bit) word ∙ bit_at-pow_other i bit n))
           ∙ sym (ap (λ t. t && auth bit q) (le-ltb bit (i + 1) (omega arith)))
+
+  -- the auth events of some places more for all groups
+  pub first-all : (common : List ℕ) (bits : ℕ) (before after : List ℕ) → bits ≡ 2 ^ length xs - 1 → AreFirstMasks events places xs (length xs) before
+      → AreMasked (length events) (is_auth_of events common) bits before after → AreFirstMasks events (λ x. places x ++ common) xs (length xs) after
+  first-all common bits before after word firsts masked = record {
+    long = masked.long;
+    each = λ bit q below.
+        ap (has_bit bit) (masked.each q below) ∙ has_bit-with bit bits (get_or before q 0) (is_auth_of events common q)
+        ∙ ap (λ t. t || (has_bit bit bits && is_auth_of events common q)) (firsts.each bit q below)
+        ∙ by bit q (slice_get_cases xs bit).1;
+  }
+    where
+      both : List ℕ → ℕ → Bool
+      both ps q = is_auth_of events ps q || is_auth_of events common q
+
+      by : (bit q : ℕ) → ((x : X) × (bit < length xs) × (slice_get xs bit ≡ Some x) × (get_or xs bit x ≡ x)) ⊎ ((length xs ≤ bit) × (slice_get xs bit ≡ None))
+          → ((nat_lt bit (length xs) && is_auth_of events (group_of places xs bit) q) || (has_bit bit bits && is_auth_of events common q))
+          ≡ (nat_lt bit (length xs) && is_auth_of events (group_of (λ x. places x ++ common) xs bit) q)
+      by bit q (inl (x, inside, some, here)) =
+          ap (λ t. (t && is_auth_of events (group_of places xs bit) q) || (has_bit bit bits && is_auth_of events common q)) (lt-ltb bit (length xs) inside)
+          ∙ ap (λ t. is_auth_of events (group_of places xs bit) q || (t && is_auth_of events common q)) (ap (λ k. eqb k 1) (ap (λ w. bit_at w bit) word ∙ bit_at_ones (length xs) bit inside))
+          ∙ ap (λ o. both (group_in places o) q) some
+          ∙ sym (list_any-append (λ p. is_auth events p q) (places x) common)
+          ∙ ap (λ o. is_auth_of events (group_in (λ x. places x ++ common) o) q) (sym some)
+          ∙ sym (ap (λ t. t && is_auth_of events (group_of (λ x. places x ++ common) xs bit) q) (lt-ltb bit (length xs) inside))
+      by bit q (inr (past, none)) =
+          ap (λ t. (t && is_auth_of events (group_of places xs bit) q) || (has_bit bit bits && is_auth_of events common q)) (le-ltb bit (length xs) past)
+          ∙ ap (λ t. t && is_auth_of events common q) (ap (λ k. eqb k 1) (ap (λ w. bit_at w bit) word ∙ bit_at_ones_above (length xs) bit past))
+          ∙ sym (ap (λ t. t && is_auth_of events (group_of (λ x. places x ++ common) xs bit) q) (le-ltb bit (length xs) past))
 
   -- all groups, and the walk
   pub chain-masks : IsGraph events → (to : ℕ) (first after : List ℕ) → AreFirstMasks events places xs (length xs) first → length after ≡ length events

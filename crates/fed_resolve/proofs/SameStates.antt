@@ -38,7 +38,7 @@ module _ {X : Type 0} where
           let place = found.1.0 in
           (found.0, ((suc place.0, omega (arith, place.1), place.2), found.1.1))
 
-  any_of : (f : X → Bool) (xs : List X) (x : X) → Contains xs x → f x ≡ true → list_any f xs ≡ true
+  pub any_of : (f : X → Bool) (xs : List X) (x : X) → Contains xs x → f x ≡ true → list_any f xs ≡ true
   any_of f xs x there t = list_any_at f xs there.0 x there.1 (ap f there.2 ∙ t)
 
   all_by_any : (f : X → Bool) (xs : List X) → list_all f xs ≡ not (list_any (λ x. not (f x)) xs)
@@ -55,7 +55,7 @@ module _ {X : Type 0} where
       true_from_ne_false (f x) (λ h. absurd (true≢false (sym all ∙ all_by_any f xs ∙ ap not (any_of (λ y. not (f y)) xs x there (ap not h)))))
 
   module _ (xs ys : List X) (there : (x : X) → Contains xs x → Contains ys x) (back : (x : X) → Contains ys x → Contains xs x) where
-    any-same : (f : X → Bool) → list_any f xs ≡ list_any f ys
+    pub any-same : (f : X → Bool) → list_any f xs ≡ list_any f ys
     any-same f =
         same_by _ _ (λ h. let found = contained f xs h in any_of f ys found.0 (there found.0 found.1.0) found.1.1)
         (λ h. let found = contained f ys h in any_of f xs found.0 (back found.0 found.1.0) found.1.1)
@@ -87,7 +87,7 @@ agreed_by_all (first ∷ others) q id h state there =
     parts : (agree_with first others q ≡ true) × (finite.get first q ≡ Some id)
     parts = shown (agree_with first others q) (finite.get first q) id (sym (entry-unconflicted first others q) ∙ h)
 
-agreed_from : (first : StateMap) (others : List StateMap) (q : StateKey) (id : List ℕ) → ((state : StateMap) → Contains (first ∷ others) state → finite.get state q ≡ Some id)
+pub agreed_from : (first : StateMap) (others : List StateMap) (q : StateKey) (id : List ℕ) → ((state : StateMap) → Contains (first ∷ others) state → finite.get state q ≡ Some id)
     → finite.get (unconflicted (first ∷ others)) q ≡ Some id
 agreed_from first others q id each =
     entry-unconflicted first others q ∙ ap (λ b. cond b (finite.get first q) None) agree ∙ here
@@ -101,7 +101,7 @@ agreed_from first others q id each =
         ∙ all_from (λ other. option_eq bytes_eq (finite.get other q) (Some id)) others
         (λ other there. own_id (finite.get other q) id (each other (suc there.0, (let below = there.1 in omega arith), there.2)))
 
-same_option : (o p : Option (List ℕ)) → ((id : List ℕ) → o ≡ Some id → p ≡ Some id) → ((id : List ℕ) → p ≡ Some id → o ≡ Some id) → o ≡ p
+pub same_option : (o p : Option (List ℕ)) → ((id : List ℕ) → o ≡ Some id → p ≡ Some id) → ((id : List ℕ) → p ≡ Some id → o ≡ Some id) → o ≡ p
 same_option None None f g = refl
 same_option None (Some id) f g = g id refl
 same_option (Some id) p f g = sym (f id refl)

@@ -22,10 +22,10 @@ or_none : (a : Bool) → a ≡ (a || (false || false))
 or_none true = refl
 or_none false = refl
 
-has_more : (es : List (StateKey × List ℕ)) (e : StateKey × List ℕ) (q : StateKey) → eq_by_cmp key_cmp q e.0 ≡ true → has_key (es ++ e ∷ []) q ≡ true
+pub has_more : (es : List (StateKey × List ℕ)) (e : StateKey × List ℕ) (q : StateKey) → eq_by_cmp key_cmp q e.0 ≡ true → has_key (es ++ e ∷ []) q ≡ true
 has_more es e q t = list_any-append (λ x. eq_by_cmp key_cmp q x.0) es (e ∷ []) ∙ or_right (has_key es q) (eq_by_cmp key_cmp q e.0 || false) (ap (λ b. b || false) t)
 
-has_other : (es : List (StateKey × List ℕ)) (e : StateKey × List ℕ) (q : StateKey) → eq_by_cmp key_cmp q e.0 ≡ false → has_key es q ≡ has_key (es ++ e ∷ []) q
+pub has_other : (es : List (StateKey × List ℕ)) (e : StateKey × List ℕ) (q : StateKey) → eq_by_cmp key_cmp q e.0 ≡ false → has_key es q ≡ has_key (es ++ e ∷ []) q
 has_other es e q t = or_none (has_key es q) ∙ ap (λ b. has_key es q || (b || false)) (sym t) ∙ sym (list_any-append (λ x. eq_by_cmp key_cmp q x.0) es (e ∷ []))
 
 pub kept-none : (whole : StateMap) → AreKept whole [] finite.empty

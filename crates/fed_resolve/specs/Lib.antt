@@ -15,3 +15,4 @@ pub mod Checks
 pub mod ChecksParts
 pub mod Resolution
 pub mod Laws
+pub mod KeptParts

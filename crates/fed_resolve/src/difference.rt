@@ -124,7 +124,7 @@ fn state_chains(alloc: Global, graph: &Graph, states: &[State]) -> Result<Vec<u6
 }
 
 // Marks the places whose words have a bit.
-fn mark_some(masks: &[u64], marks: &mut [bool])
+pub(crate) fn mark_some(masks: &[u64], marks: &mut [bool])
     requires { length marks.old ≡ length masks.now }
     ensures { AreMarks (length masks.now) (λ place. is_marked marks.old place || not (slice_index masks.now place == 0)) marks.new }
 {
@@ -136,7 +136,7 @@ fn mark_some(masks: &[u64], marks: &mut [bool])
 }
 
 // Leaves the marks of the places whose words are this one.
-fn keep_every(masks: &[u64], word: u64, marks: &mut [bool])
+pub(crate) fn keep_every(masks: &[u64], word: u64, marks: &mut [bool])
     requires { length marks.old ≡ length masks.now }
     ensures { AreMarks (length masks.now) (λ place. is_marked marks.old place && (slice_index masks.now place == word)) marks.new }
 {

@@ -4,7 +4,9 @@
 //! - `checks`: iterative auth checks
 //! - `conflict`: what states agree on, and their full auth chains
 //! - `difference`: what states disagree on: the full conflicted set
+//! - `dispute`: the same of states that are kept by earlier ones
 //! - `equality`: whether states are equal
+//! - `kept`: what states that are kept by earlier ones resolve to
 //! - `laws`: what holds of auth chains and of all resolved states, and `resolve_plainly`, the plain program of these
 //! - `levels`: what the auth events of an event say of power levels
 //! - `mainline`: mainline ordering
@@ -21,7 +23,9 @@ mod chain;
 mod checks;
 mod conflict;
 mod difference;
+mod dispute;
 mod equality;
+mod kept;
 mod laws;
 mod levels;
 mod mainline;
@@ -37,6 +41,7 @@ pub use chain::chains;
 pub use checks::check_all;
 pub use conflict::{agreed, full_chain, unconflicted};
 pub use difference::full_conflicted;
+pub use kept::{Merged, resolve_kept};
 pub use laws::{
     agreed_keys_stay, chain_test_is_exact, entries_come_from_the_states,
     later_events_change_nothing, lists_are_orders, mainlines_are_exact, no_states_are_empty,

@@ -3,7 +3,7 @@ ghost use Rattle.std.specs.Prelude.{◌≡◌, ◌<◌, ℕ, List, Bool, ◌||�
 ghost use Rattle.fed_room_contract.specs.declared.graph.Stored.{Stored};
 ghost use Rattle.fed_resolve.specs.Chain.{members};
 ghost use Rattle.fed_resolve.specs.Marks.{AreMarks};
-ghost use Rattle.fed_resolve.specs.ChainParts.{is_marked};
+ghost use Rattle.fed_resolve.specs.ChainParts.{is_marked, or_among};
 
 use fed_json::NoMemory;
 use std::alloc::Global;
@@ -17,6 +17,16 @@ pub(crate) fn add_marks(marks: &mut [bool], others: &[bool])
         if *other {
             marks[place] = true;
         }
+    }
+}
+
+// Marks some places.
+pub(crate) fn mark_all(places: &[usize], marks: &mut [bool])
+    requires { All (λ place. place < length marks.old) places.now }
+    ensures { AreMarks (length marks.old) (or_among places.now marks.old) marks.new }
+{
+    for place in places {
+        marks[*place] = true;
     }
 }
 

@@ -32,7 +32,8 @@ pub fn is_power_event(event: &Pdu) -> bool
 /// `NoMemory`.
 pub fn power_set(alloc: Global, graph: &Graph, conflicted: &[bool]) -> Result<Vec<bool>, NoMemory>
     requires { length conflicted.now ≡ length graph.now.stored }
-    ensures { IfOk result (λ marks. (states : List StateMap) → AreMarks (length graph.now.stored) (is_full_conflicted graph.now.stored states) conflicted.now → AreMarks (length graph.now.stored) (is_power graph.now.stored states) marks.items) }
+    ensures long { IfOk result (λ marks. length marks.items ≡ length graph.now.stored) }
+    ensures marks { IfOk result (λ marks. (states : List StateMap) → AreMarks (length graph.now.stored) (is_full_conflicted graph.now.stored states) conflicted.now → AreMarks (length graph.now.stored) (is_power graph.now.stored states) marks.items) }
 {
     let power = power_events(alloc, graph, conflicted)?;
     let places = members(alloc, &power)?;
@@ -46,7 +47,8 @@ pub fn power_set(alloc: Global, graph: &Graph, conflicted: &[bool]) -> Result<Ve
 /// place of the graph. It takes no memory.
 pub fn other_set(mut conflicted: Vec<bool>, power: &[bool]) -> Vec<bool>
     requires { length conflicted.items ≡ length power.now }
-    ensures { (events : List Stored) (states : List StateMap) → AreMarks (length events) (is_full_conflicted events states) conflicted.items → AreMarks (length events) (is_power events states) power.now → AreMarks (length events) (is_other events states) result.items }
+    ensures long { length result.items ≡ length power.now }
+    ensures marks { (events : List Stored) (states : List StateMap) → AreMarks (length events) (is_full_conflicted events states) conflicted.items → AreMarks (length events) (is_power events states) power.now → AreMarks (length events) (is_other events states) result.items }
 {
     remove_marks(&mut conflicted, power);
     conflicted

@@ -1,9 +1,10 @@
 // State resolution.
-ghost use Rattle.std.specs.Prelude.{◌≡◌, ◌<◌, ℕ, Bool, IfOk, IfSome, length};
+ghost use Rattle.std.specs.Prelude.{◌≡◌, ◌<◌, ℕ, Bool, List, IfOk, IfSome, length};
 ghost use Rattle.std.specs.FinMap as finite;
 ghost use Rattle.fed_resolve.specs.Chain.{members as members_of};
 ghost use Rattle.fed_resolve.specs.Checks.{checked};
-ghost use Rattle.fed_resolve.specs.Conflict.{unconflicted as unconflicted_of};
+ghost use Rattle.fed_room_contract.specs.State.{StateMap};
+ghost use Rattle.fed_resolve.specs.Conflict.{is_full_conflicted, unconflicted as unconflicted_of};
 ghost use Rattle.fed_resolve.specs.Mainline.{mainline_order as mainline_order_of};
 ghost use Rattle.fed_resolve.specs.Marks.{AreMarks};
 ghost use Rattle.fed_resolve.specs.PowerOrder.{power_order as power_order_of};
@@ -74,6 +75,21 @@ fn check_conflicted(
     ensures { IfOk result (λ state. state ≡ checked_state graph.now.stored states.now) }
 {
     let set = full_conflicted_beside(alloc, graph, states, &agreed)?;
+    check_set(alloc, listing, graph, set, agreed)
+}
+
+// The same of a full conflicted set.
+pub(crate) fn check_set(
+    alloc: Global,
+    listing: Listing,
+    graph: &Graph,
+    set: Vec<bool>,
+    agreed: State,
+) -> Result<State, NoMemory>
+    requires { length set.items ≡ length graph.now.stored }
+    ensures { IfOk result (λ state. (states : List StateMap) → agreed ≡ unconflicted_of states
+        → AreMarks (length graph.now.stored) (is_full_conflicted graph.now.stored states) set.items → state ≡ checked_state graph.now.stored states) }
+{
     let power = power_set(alloc, graph, &set)?;
     let others = other_set(set, &power);
     let state = check_by_power(alloc, listing, graph, &power, agreed)?;
@@ -128,7 +144,7 @@ fn levels_place(graph: &Graph, state: &State) -> Option<usize>
 }
 
 // A state with the entries of another one laid over it.
-fn with_entries(alloc: Global, state: State, other: &State) -> Result<State, NoMemory>
+pub(crate) fn with_entries(alloc: Global, state: State, other: &State) -> Result<State, NoMemory>
     ensures { IfOk result (λ all. all ≡ with_entries state (finite.entries other.now)) }
 {
     let mut all = state;

@@ -8,8 +8,8 @@ use Rattle.fed_resolve.proofs.Marks.{written}
 use Rattle.fed_resolve.proofs.Sets.{power-marks}
 use Rattle.fed_resolve.proofs.power.power_set.Goals as goal
 
-pub returns : goal.returns
-returns c = λ states are.
+pub returns-clause-marks : goal.returns-clause-marks
+returns-clause-marks c = λ states are.
     let events = c.args.graph.now.stored in
     let set = c.args.conflicted.now in
     let power = c.in_ok-power.power.items in
@@ -33,3 +33,14 @@ returns c = λ states are.
     subst (λ (ms : List Bool). AreMarks (length events) (is_power events states) ms)
     (sym (written c.in_ok-marks.marks.len kept (take c.in_ok-marks.marks.len (added ++ drop (length added) marks)) (omega (arith, both.long, are.long, walked.long))))
     (power-marks events states set are power places marks added kept powers listed walked joined both)
+
+pub returns-clause-long : goal.returns-clause-long
+returns-clause-long c =
+    let power = c.in_ok-power.power.items in
+    let marks = c.in_ok-marks.marks.items in
+    let added = c.add_marks.new.marks in
+    let kept = c.keep_marks.new.marks in
+    let size : length marks ≡ c.in_ok-marks.marks.len = omega (arith, ap length c.deref_mut.ensures.value, c.deref_mut.ensures.len) in
+    let long : length added ≡ c.in_ok-marks.marks.len = omega (arith, c.add_marks.ensures.long, ap length c.deref-3.ensures.value, c.in_ok-marks.ensures.long, c.in_ok-power.ensures.long) in
+    ap length (written c.in_ok-marks.marks.len kept (take c.in_ok-marks.marks.len (added ++ drop (length added) marks)) (omega (arith, c.keep_marks.ensures.long, c.requires, c.in_ok-marks.ensures.long, size)))
+    ∙ c.keep_marks.ensures.long ∙ c.requires
