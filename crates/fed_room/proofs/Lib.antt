@@ -12,3 +12,4 @@ pub mod SameTips
 pub mod OneState
 pub mod KeysOf
 pub mod StartedRooms
+pub mod MadeStates

@@ -1,5 +1,5 @@
 -- Places of one state: it is what the states there resolve to.
-use Rattle.std.proofs.Common.{◌≡◌, ◌≢◌, ◌<◌, ◌+◌, ℕ, zero, suc, List, [], ◌∷◌, length, map, Contains, All, refl, sym, ap, subst, ◌∙◌, arith}
+use Rattle.std.proofs.Common.{◌≡◌, ◌≢◌, ◌<◌, ℕ, zero, suc, List, [], ◌∷◌, length, Contains, All, refl, sym, subst, ◌∙◌, arith}
 use Rattle.std.specs.List.{slice_index_or}
 use Rattle.fed_room_contract.specs.State.{StateMap}
 use Rattle.fed_room_contract.specs.Steps.{state_at}
@@ -40,4 +40,4 @@ module _ (states : List StateMap) (state : StateMap) where
 -- what is kept among these states is kept at its place
 pub kept-there : (states : List StateMap) (resolved : Resolved) → IsKeptIn states resolved → IsThere resolved
 kept-there states (Kept kept place) is = subst (λ (xs : List StateMap). place < length xs) (sym is.0) is.1
-kept-there states (Made state) is = tt
+kept-there states (Made over merged) is = tt

@@ -11,11 +11,17 @@ use fed_json::NoMemory;
 use fed_room_contract::{State, Steps};
 use std::alloc::Global;
 
-/// The state after an event, beside the states that are kept: the same as the one at a place, that one with the event laid over, or another.
+/// The state after an event, beside the states that are kept: the same as the one at a place, that one with the event laid over, another that
+/// differs from that one at the types and state keys of the entries of `keys` alone, or another.
 #[derive(Drop)]
 pub(crate) enum After {
     Same(usize),
     Laid(usize),
+    Changed {
+        over: usize,
+        state: State,
+        keys: State,
+    },
     Whole(State),
 }
 
@@ -33,6 +39,9 @@ impl After {
         match self {
             After::Same(place) => states.set_same(place),
             After::Laid(place) => lay(alloc, event, place, states),
+            After::Changed { over, state, keys } => {
+                states.set_changed(alloc, over, &state, &keys)
+            }
             After::Whole(state) => states.set_whole(state),
         }
     }

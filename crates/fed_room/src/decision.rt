@@ -67,8 +67,8 @@ pub(crate) fn state_with(
     Ok(state)
 }
 
-// Lays an event over a state, where it has a state key.
-fn lay(alloc: Global, event: &Pdu, state: &mut State) -> Result<(), NoMemory>
+/// Lays an event over a state, where it has a state key.
+pub(crate) fn lay(alloc: Global, event: &Pdu, state: &mut State) -> Result<(), NoMemory>
     ensures { OnOk result (state.new ≡ with_id_at state.old (kind_of event.now) (state_key_of event.now) (event_id_of event.now)) }
 {
     if let Some(state_key) = event.state_key() {

@@ -2,6 +2,7 @@
 //!
 //! - `room`: `Room`, a room by the standard
 //! - `resolved`: states that are kept or made
+//! - `before`: `Before`, the state before an event that is prepared
 //! - `after`: `After`, the state after an event
 //! - `decision`: the verdict on an event, and the state after it
 //! - `start`: a room that begins with some events
@@ -20,6 +21,7 @@
 #![tactic(auto)]
 
 mod after;
+mod before;
 mod creation;
 mod decision;
 mod drafting;

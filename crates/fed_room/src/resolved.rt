@@ -4,21 +4,22 @@ ghost use Rattle.fed_resolve.specs.Resolution.{resolved_of};
 ghost use Rattle.fed_room_contract.specs.State.{StateMap};
 ghost use Rattle.fed_room_contract.specs.StateRef.{seen as ref_seen};
 ghost use Rattle.fed_room.specs.States.{state_with};
-ghost use Rattle.fed_room.specs.StatesParts.{at_places, seen, after_seen, IsThere, IsThereIn, IsKeptIn, IsOne};
+ghost use Rattle.fed_room.specs.StatesParts.{at_places, seen, before_seen, after_seen, IsMadeOver, IsThere, IsThereBefore, IsThereIn, IsKeptIn, IsOne};
 
 use crate::after::After;
-use crate::decision::state_with;
+use crate::before::Before;
+use crate::decision::{lay, state_with};
 use fed_event::Checked;
 use fed_json::NoMemory;
-use fed_resolve::resolve;
+use fed_resolve::{Merged, resolve_kept};
 use fed_room_contract::{Graph, State, StateRef, Steps, Verdict};
 use std::alloc::Global;
 
-/// A resolved state: one that is kept at a place, or one that was made.
+/// A resolved state: one that is kept at a place, or one that was made, and the place of one of those of which it was made.
 #[derive(Drop)]
 pub(crate) enum Resolved<'a> {
     Kept(&'a Steps, usize),
-    Made(State),
+    Made(Option<usize>, Merged),
 }
 
 impl Resolved<'_> {
@@ -28,7 +29,7 @@ impl Resolved<'_> {
     {
         match self {
             Resolved::Kept(states, place) => StateRef::Kept(states, *place),
-            Resolved::Made(state) => StateRef::Whole(state),
+            Resolved::Made(_, merged) => StateRef::Whole(&merged.state),
         }
     }
 
@@ -39,7 +40,18 @@ impl Resolved<'_> {
     {
         match self {
             Resolved::Kept(states, place) => states.copy(alloc, *place),
-            Resolved::Made(state) => state.copy(alloc),
+            Resolved::Made(_, merged) => merged.state.copy(alloc),
+        }
+    }
+
+    /// The state, apart from where it is kept.
+    pub(crate) fn before(&self, alloc: Global) -> Result<Before, NoMemory>
+        ensures there { (states : List StateMap) → IsKeptIn states self.now → IfOk result (IsThereBefore states) }
+        ensures state { (states : List StateMap) → IsKeptIn states self.now → IfOk result (λ before. before_seen states before ≡ seen self.now) }
+    {
+        match self {
+            Resolved::Kept(_, place) => Ok(Before::Kept(*place)),
+            Resolved::Made(_, merged) => Ok(Before::Made(merged.state.copy(alloc)?)),
         }
     }
 
@@ -62,13 +74,33 @@ impl Resolved<'_> {
                 }
                 Ok(After::Laid(place))
             }
-            Resolved::Made(state) => Ok(After::Whole(state_with(alloc, state, event, verdict)?)),
+            Resolved::Made(over, merged) => after_merged(alloc, over, merged, event, verdict),
         }
     }
 }
 
+// The state after an event of a state before it that was made of several.
+fn after_merged(
+    alloc: Global,
+    over: Option<usize>,
+    merged: Merged,
+    event: &Checked,
+    verdict: Verdict,
+) -> Result<After, NoMemory>
+    ensures there { (states : List StateMap) → IfSome over (IsMadeOver states merged) → IfOk result (IsThereIn states) }
+    ensures state { (states : List StateMap) → IfOk result (λ after. after_seen states event.now.event after ≡ state_with merged.state (record { event = event.now; verdict = verdict })) }
+{
+    let Merged { state, mut keys } = merged;
+    let state = state_with(alloc, state, event, verdict)?;
+    let Some(over) = over else {
+        return Ok(After::Whole(state));
+    };
+    lay(alloc, event.event(), &mut keys)?;
+    Ok(After::Changed { over, state, keys })
+}
+
 /// The states at these places, counted from 0, resolved in this graph. Where they are kept as one, it is not copied, and nothing is
-/// resolved.
+/// resolved; else what is made of them is told with where it differs from them.
 ///
 /// # Errors
 ///
@@ -86,8 +118,8 @@ pub(crate) fn resolved_at<'a>(
     if let Some(place) = one_of(states, places) {
         return Ok(Resolved::Kept(states, place));
     }
-    let states = copies(alloc, states, places)?;
-    Ok(Resolved::Made(resolve(alloc, graph, &states)?))
+    let merged = resolve_kept(alloc, graph, states, places)?;
+    Ok(Resolved::Made(places.first().copied(), merged))
 }
 
 // The place of the state that all of these are kept as.
@@ -105,16 +137,4 @@ fn one_of(states: &Steps, places: &[usize]) -> Option<usize>
         }
     }
     Some(first)
-}
-
-// Copies of the states at these places.
-fn copies(alloc: Global, states: &Steps, places: &[usize]) -> Result<Vec<State>, NoMemory>
-    requires { All (λ place. place < length states.now.after) places.now }
-    ensures { IfOk result (λ copies. copies.items ≡ at_places states.now.after places.now) }
-{
-    let mut copies = Vec::new(alloc);
-    for place in places {
-        copies.push(states.copy(alloc, *place)?)?;
-    }
-    Ok(copies)
 }

@@ -268,16 +268,16 @@ impl RoomEngine for Room {
         if let Some(rule) = self.verdict(alloc, &event, before.state())?.rule() {
             return Err(Refusal::NotAllowed(rule));
         }
-        let state = before.copy(alloc)?;
+        let shared = before.before(alloc)?;
         let after = before.after(alloc, &event, Verdict::Accepted)?;
+        let state = shared.share(alloc, &mut self.states)?;
         self.store.reserve(alloc, event.event().id())?;
         after.keep(alloc, event.event(), &mut self.states)?;
-        Ok(Prepared::new(alloc, event, state)?)
+        Ok(Prepared::sharing(alloc, event, state)?)
     }
 
     fn commit(&mut self, prepared: Prepared) -> EventId {
-        let (event, before, id) = prepared.into_parts();
-        drop(before);
+        let (event, id) = prepared.into_event();
         if !self.store.graph().contains(id.as_str()) {
             self.store_next(event, Verdict::Accepted);
         }

@@ -95,8 +95,7 @@ impl RoomEngine for TableRoom {
     }
 
     fn commit(&mut self, prepared: Prepared) -> EventId {
-        let (event, before, id) = prepared.into_parts();
-        drop(before);
+        let (event, id) = prepared.into_event();
         if !self.store.graph().contains(id.as_str()) {
             self.store.store(event, Verdict::Accepted);
         }

@@ -1,4 +1,4 @@
-use Rattle.std.proofs.Common.{◌≡◌, ◌<◌, List, length, false, sym, ap, ◌∙◌, subst, if◌then◌else◌}
+use Rattle.std.proofs.Common.{◌≡◌, ◌<◌, length, false, sym, ap, ◌∙◌, subst, if◌then◌else◌}
 use Rattle.fed_event.specs.EventId.{event_id_of}
 use Rattle.fed_event.specs.Fields.{kind_of, state_key_of}
 use Rattle.fed_auth.specs.AuthState.{is_rejected, with_id_at, with_stored}
