@@ -12,6 +12,10 @@ use Rattle.fed_event.specs.contracts.checked.Checked as checked
 use Rattle.fed_journal.specs.contracts.parcel.Parcel as parcel
 use Rattle.fed_journal.specs.contracts.journal.Journal as journal
 use Rattle.fed_outbox.specs.contracts.outbox.Outbox as outbox
+use Rattle.fed_room_contract.specs.contracts.change.Change as change
+use Rattle.fed_room_contract.specs.contracts.state.State as state
+use Rattle.fed_room_contract.specs.contracts.step.Step as step
+use Rattle.fed_room_contract.specs.contracts.steps.Steps as steps
 use Rattle.fed_wires.specs.contracts.ends.ReceiveEnd as receiver
 use Rattle.fed_wires.specs.contracts.ends.SendEnd as sender
 use Rattle.fed_wires.proofs.ends.ReceiveEnd.TheSendSync as receive
@@ -63,8 +67,20 @@ checked_send = first_of (
   search (maps.crosses, crossing.crosses, TheKnot.crosses_both, sendable) depth 60 fits 20000,
 )
 
+state_send : IsSend state.the_row
+state_send = search (maps.crosses, crossing.crosses, sendable) depth 60 fits 20000
+
+change_send : IsSend change.the_row
+change_send = search (maps.crosses, crossing.crosses, sendable) depth 60 fits 20000
+
+step_send : IsSend step.the_row
+step_send = search (state_send, change_send, maps.crosses, crossing.crosses, sendable) depth 60 fits 20000
+
+steps_send : IsSend steps.the_row
+steps_send = search (state_send, step_send, maps.crosses, crossing.crosses, sendable) depth 60 fits 20000
+
 pub kept_room_send : IsSend kept_room.the_row
-kept_room_send = search (checked_send, maps.crosses, crossing.crosses, sendable) depth 60 fits 20000
+kept_room_send = search (checked_send, steps_send, maps.crosses, crossing.crosses, sendable) depth 60 fits 20000
 
 pub seated_outbox_send : (N : RattleType) (names : naming.Ghosts N.Denot) → IsSend (seated.the_row N names)
 seated_outbox_send N names = view_send _ _ _ _ _ (declared_send (seated_inside.the_type N names) (outbox_send, (search (seat.the_send, sendable) depth 60, (search sendable depth 60, tt))))
