@@ -130,8 +130,8 @@ impl PaperRoom {
         };
         let prepared = self.room.prepare(alloc, draft, keys).ok()?;
         let event = prepared.event().copy(alloc).ok()?;
-        self.made.push(event).ok()?;
         self.room.commit(prepared);
+        self.made.push(event).ok()?;
         Some(())
     }
 }
