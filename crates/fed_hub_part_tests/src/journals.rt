@@ -89,19 +89,36 @@ fn run<N: Naming, R: Wait + Abort>(
 {
     let (journal, mut one) = SendingJournal::<N>::new(alloc, ends, events, edus)?;
     let mut two = one.split();
-    let shared = &Mutex::new(journal);
-    let first = ServerIndex::new(1);
-    assert_eq!(rt; number_of(rt, alloc, shared, &mut one), Some(1));
-    assert_eq!(rt; number_of(rt, alloc, shared, &mut two), Some(2));
-    let was_open = sections::close(rt, &mut shared.lock(rt), first);
-    assert_eq!(rt; was_open.ok(), Some(true));
-    let was_open = sections::close(rt, &mut shared.lock(rt), first);
-    assert_eq!(rt; was_open.ok(), Some(false));
-    assert_eq!(rt; number_of(rt, alloc, shared, &mut one), Some(3));
+    let shared = Mutex::new(journal);
+    offer_in_turn(rt, alloc, &shared, &mut one, &mut two)?;
     one.merge(two);
     let mut journal = shared.lock(rt);
     journal.all_told(&mut one);
     assert_eq!(rt; journal.entries().len(), 4);
+    Ok(())
+}
+
+fn offer_in_turn<N: Naming, R: Wait + Abort>(
+    rt: &R,
+    alloc: Global,
+    journal: &Mutex<SendingJournal<N>>,
+    one: &mut ClientToken<N>,
+    two: &mut ClientToken<N>,
+) -> Result<(), Fail>
+    requires one { 0 < one.old.parts }
+    requires two { 0 < two.old.parts }
+    requires servers { length N.wires ≡ 3 }
+    ensures one { one.new.parts ≡ one.old.parts }
+    ensures two { two.new.parts ≡ two.old.parts }
+{
+    let first = ServerIndex::new(1);
+    assert_eq!(rt; number_of(rt, alloc, journal, one), Some(1));
+    assert_eq!(rt; number_of(rt, alloc, journal, two), Some(2));
+    let was_open = sections::close(rt, &mut journal.lock(rt), first);
+    assert_eq!(rt; was_open.ok(), Some(true));
+    let was_open = sections::close(rt, &mut journal.lock(rt), first);
+    assert_eq!(rt; was_open.ok(), Some(false));
+    assert_eq!(rt; number_of(rt, alloc, journal, one), Some(3));
     Ok(())
 }
 

@@ -255,9 +255,18 @@ fn message(alloc: Global, room: &str) -> Option<Checked> {
 // Whether an event is stored in the first room, and was sent to the servers at these places.
 fn is_sent(alloc: Global, event: &Checked, places: &[ServerIndex]) -> Option<bool> {
     let room = KeptRoom::start(alloc, "a", beginning(alloc, ROOM)?).ok()?;
-    let dests = servers(alloc, places)?;
-    let own = ServerIndex::new(0);
-    is_sent_as_stored(alloc, room.room(), own, &list(alloc)?, event, &dests).ok()
+    is_sent_by(alloc, &room, event, places)
+}
+
+// The same of this room.
+fn is_sent_by(
+    alloc: Global,
+    room: &KeptRoom,
+    event: &Checked,
+    places: &[ServerIndex],
+) -> Option<bool> {
+    let (list, dests) = (list(alloc)?, servers(alloc, places)?);
+    is_sent_as_stored(alloc, room.room(), ServerIndex::new(0), &list, event, &dests).ok()
 }
 
 #[test]
@@ -375,15 +384,28 @@ fn is_nothing_brought<N: ServingNaming, R: Wait>(
     requires wire { slice_get N.rooms 0 ≡ Some end.wire }
     requires new { end ≡ new_receiver end.wire }
 {
-    let known = vec![in alloc; String::from_str(alloc, ROOM).ok()?].ok()?;
     let mut room = KeptRoom::start(alloc, "a", beginning(alloc, ROOM)?).ok()?;
-    let before = are_brought(alloc, std::slice::from_ref(&room), &known, &[]).ok()?;
-    sender.reserve(rt, 1).ok()?;
-    sender.send(rt, message(alloc, ROOM)?).ok()?;
+    let before = is_brought_by_none(alloc, &room)?;
+    send_message(rt, alloc, &mut sender)?;
     let mut token = RoomToken::<N>::new(alloc, 0, end);
     run_room(rt, alloc, &mut room, &mut token, 1);
-    let behind = are_brought(alloc, std::slice::from_ref(&room), &known, &[]).ok()?;
+    let behind = is_brought_by_none(alloc, &room)?;
     Some([before, behind])
+}
+
+fn is_brought_by_none(alloc: Global, room: &KeptRoom) -> Option<bool> {
+    let known = vec![in alloc; String::from_str(alloc, ROOM).ok()?].ok()?;
+    are_brought(alloc, std::slice::from_ref(room), &known, &[]).ok()
+}
+
+fn send_message<R: Wait>(
+    rt: &R,
+    alloc: Global,
+    sender: &mut SendEnd<Checked, AnyMessage>,
+) -> Option<()> {
+    let message = message(alloc, ROOM)?;
+    sender.reserve(rt, 1).ok()?;
+    sender.send(rt, message).ok()
 }
 
 #[test]

@@ -63,12 +63,24 @@ struct Messages {
 }
 
 fn make_messages(alloc: Global) -> Option<Messages> {
-    let mut other = Room::start(alloc, "a", beginning(alloc)?).ok()?;
+    let (first, second) = two_messages(alloc)?;
+    let room = KeptRoom::start(alloc, "b", beginning(alloc)?).ok()?;
     Some(Messages {
-        room: KeptRoom::start(alloc, "b", beginning(alloc)?).ok()?,
-        first: message(alloc, &mut other)?,
-        second: message(alloc, &mut other)?,
+        room,
+        first,
+        second,
     })
+}
+
+fn two_messages(alloc: Global) -> Option<(Checked, Checked)> {
+    let mut room = Room::start(alloc, "a", beginning(alloc)?).ok()?;
+    made_in(alloc, &mut room)
+}
+
+fn made_in(alloc: Global, room: &mut Room) -> Option<(Checked, Checked)> {
+    let first = message(alloc, room)?;
+    let second = message(alloc, room)?;
+    Some((first, second))
 }
 
 // Sends copies of two events.

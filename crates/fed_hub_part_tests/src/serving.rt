@@ -10,7 +10,7 @@ use fed_hub_serving::{
     ServingNaming, SharedInbox, serve_one,
 };
 use fed_hub_told::Note;
-use fed_inbox::{Inbox, Receiver};
+use fed_inbox::{Inbox, Receiver, Taken};
 use fed_json::NoMemory;
 use fed_keys::{StandIn, Trusting};
 use fed_replies::ListStore;
@@ -170,6 +170,21 @@ fn is_point(points: &[KeptPoint], answered: &AnsweredRequest) -> bool {
     }
 }
 
+// What threads share of an inbox that knows no room.
+fn shared<N: ServingNaming>(
+    alloc: Global,
+    inbox: Inbox<ListStore>,
+) -> Result<SharedInbox<N, ListStore>, NoMemory>
+    requires server { IsInboxOf N.receiver inbox.state }
+    requires beginning { inbox.state ≡ N.beginning }
+    requires rooms { (N.known ≡ []) × (N.rooms ≡ []) }
+{
+    let ends: Vec<SendEnd<Checked, AnyMessage>> = Vec::new(alloc);
+    let credits = Credits::new(alloc, &ends)?;
+    let inbox = Mutex::new(KeptInbox::<N, ListStore>::new(alloc, inbox, ends)?);
+    Ok(SharedInbox { inbox, credits })
+}
+
 // The transaction comes ten times, and its reply, which is one write, can not be written at the first; then come bytes that are no request, or too
 // few.
 fn run<N: ServingNaming, K: Keys, T: Wait + Abort>(
@@ -186,23 +201,34 @@ fn run<N: ServingNaming, K: Keys, T: Wait + Abort>(
     requires beginning { inbox.state ≡ N.beginning }
     requires rooms { (N.known ≡ []) × (N.rooms ≡ []) }
 {
-    let ends: Vec<SendEnd<Checked, AnyMessage>> = Vec::new(alloc);
-    let credits = Credits::new(alloc, &ends)?;
-    let inbox = Mutex::new(KeptInbox::<N, ListStore>::new(alloc, inbox, ends)?);
-    let shared = SharedInbox { inbox, credits };
-    let mut inbox = LockedInbox { shared: &shared };
+    let shared = shared::<N>(alloc, inbox)?;
     let desk = ServingDesk {
         receiver,
         known: &[],
         keys,
     };
     let mut token = ServeToken::new(alloc);
+    serve_ten(rt, alloc, &desk, &shared, &mut token, request)?;
+    serve_none(rt, alloc, &desk, &shared, &mut token)?;
+    finds_ten(rt, &shared, &token)
+}
+
+fn serve_ten<N: ServingNaming, K: Keys, T: Wait + Abort>(
+    rt: &T,
+    alloc: Global,
+    desk: &ServingDesk<'_, K>,
+    shared: &SharedInbox<N, ListStore>,
+    token: &mut ServeToken<N>,
+    request: &[u8],
+) -> Result<(), Fail>
+    requires checks { K.checks desk.now.keys.now ≡ N.checks }
+    requires receiver { desk.now.receiver.now ≡ N.receiver }
+    requires known { (desk.now.known.now ≡ []) × (N.known ≡ []) }
+{
     for writes in 0..10 {
-        let input = Input {
-            bytes: request,
-            broken: false,
-        };
-        let (served, written) = serve(rt, alloc, &desk, &mut inbox, &mut token, input, writes);
+        let mut inbox = LockedInbox { shared };
+        let input = plain(request);
+        let (served, written) = serve(rt, alloc, desk, &mut inbox, token, input, writes);
         let whole = writes > 0;
         let expected = if whole {
             Served::Answered(200)
@@ -213,6 +239,20 @@ fn run<N: ServingNaming, K: Keys, T: Wait + Abort>(
         assert_eq!(rt; written.as_slice() == TAKEN, whole);
     }
     assert_eq!(rt; token.answered().len(), 10);
+    Ok(())
+}
+
+fn serve_none<N: ServingNaming, K: Keys, T: Wait + Abort>(
+    rt: &T,
+    alloc: Global,
+    desk: &ServingDesk<'_, K>,
+    shared: &SharedInbox<N, ListStore>,
+    token: &mut ServeToken<N>,
+) -> Result<(), Fail>
+    requires checks { K.checks desk.now.keys.now ≡ N.checks }
+    requires receiver { desk.now.receiver.now ≡ N.receiver }
+    requires known { (desk.now.known.now ≡ []) × (N.known ≡ []) }
+{
     for (bytes, broken, served, written) in [
         (
             b"no request\r\n\r\n".as_slice(),
@@ -228,23 +268,32 @@ fn run<N: ServingNaming, K: Keys, T: Wait + Abort>(
         ),
         (b"PUT ".as_slice(), true, Served::ReadFault, b"".as_slice()),
     ] {
+        let mut inbox = LockedInbox { shared };
         let input = Input { bytes, broken };
-        let found = serve(rt, alloc, &desk, &mut inbox, &mut token, input, 9);
+        let found = serve(rt, alloc, desk, &mut inbox, token, input, 9);
         assert_eq!(rt; found.0, served);
         assert_eq!(rt; found.1.as_slice(), written);
     }
+    Ok(())
+}
+
+fn finds_ten<N: ServingNaming, T: Wait + Abort>(
+    rt: &T,
+    shared: &SharedInbox<N, ListStore>,
+    token: &ServeToken<N>,
+) -> Result<(), Fail> {
     assert_eq!(rt; token.answered().len(), 10);
     let kept = shared.inbox.lock(rt);
     assert_eq!(rt; kept.points().len(), 10);
-    assert!(rt; has_numbers(&token, &[1, 2, 3, 4, 5, 6, 7, 8, 9, 10]));
-    assert!(rt; are_points(kept.points(), &token));
-    let mut edus = kept.inbox().taken_edus("a.example");
-    assert_eq!(rt;
-        edus.next(),
-        Some(b"{\"content\":{},\"edu_type\":\"m.x\"}".as_slice())
-    );
-    assert_eq!(rt; edus.next(), None);
+    assert!(rt; has_numbers(token, &[1, 2, 3, 4, 5, 6, 7, 8, 9, 10]));
+    assert!(rt; are_points(kept.points(), token));
+    assert!(rt; are_just_the_edu(kept.inbox().taken_edus("a.example")));
     Ok(())
+}
+
+fn are_just_the_edu(mut edus: Taken<'_>) -> bool {
+    let first = edus.next();
+    first == Some(b"{\"content\":{},\"edu_type\":\"m.x\"}".as_slice()) && edus.next().is_none()
 }
 
 #[test]
@@ -275,10 +324,7 @@ fn run_two<N: ServingNaming, K: Keys, T: Wait + Abort>(
     requires beginning { inbox.state ≡ N.beginning }
     requires rooms { (N.known ≡ []) × (N.rooms ≡ []) }
 {
-    let ends: Vec<SendEnd<Checked, AnyMessage>> = Vec::new(alloc);
-    let credits = Credits::new(alloc, &ends)?;
-    let inbox = Mutex::new(KeptInbox::<N, ListStore>::new(alloc, inbox, ends)?);
-    let shared = SharedInbox { inbox, credits };
+    let shared = shared::<N>(alloc, inbox)?;
     let mut inbox = LockedInbox { shared: &shared };
     let desk = ServingDesk {
         receiver,
@@ -390,10 +436,7 @@ fn run_again<N: ServingNaming, K: Keys, T: Wait + Abort>(
     requires beginning { inbox.state ≡ N.beginning }
     requires rooms { (N.known ≡ []) × (N.rooms ≡ []) }
 {
-    let ends: Vec<SendEnd<Checked, AnyMessage>> = Vec::new(alloc);
-    let credits = Credits::new(alloc, &ends)?;
-    let inbox = Mutex::new(KeptInbox::<N, ListStore>::new(alloc, inbox, ends)?);
-    let shared = SharedInbox { inbox, credits };
+    let shared = shared::<N>(alloc, inbox)?;
     let mut inbox = LockedInbox { shared: &shared };
     let desk = ServingDesk {
         receiver,
