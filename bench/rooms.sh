@@ -1,14 +1,16 @@
 #!/bin/sh
 # Measures what an event costs in a room, by how many members and how many events it has: the built program crates/fed_bench/out/fed_bench
 # (after `rt run < stdin` there) makes rooms of 2 and of 1,000 members and receives 1,000, 10,000 and 50,000 messages one by one, in one line
-# and with a fork every 10 events; and then 100 and 1,000 messages that all follow one event, so that each is a forward extremity.
+# and with a fork every 10 events; and then 100 and 1,000 messages that all follow one event, so that each is a forward extremity. Then one
+# member changes the own display name again and again, which is state: each change follows one event, so that all are forward extremities; or
+# each third follows the two before it, so that two states are merged.
 #
 #     bench/rooms.sh [RUNS]
 #
 # Prints for each the least time for an event, of receiving alone, and what the peak memory grows by for an event, the event itself among it;
 # and then how many times those of a room of 2 members they are. Both rooms are run in turn: on a machine that does other work too, the more
 # runs, the likelier that each room meets a quiet moment. What a run of 1,000 messages takes is less than the script's own memory, which
-# counts in the peak. Figures of two machines can't be compared.
+# counts in the peak. Of a merge what it takes beyond a change in a line is told. Figures of two machines can't be compared.
 set -e
 here=$(cd "$(dirname "$0")" && pwd)
 program=$here/../crates/fed_bench/out/fed_bench
@@ -20,9 +22,9 @@ program, runs = sys.argv[1], int(sys.argv[2])
 
 
 # The time of receiving in microseconds, and the peak memory of the run in bytes.
-def told(members, messages, fork):
+def told(members, messages, fork, kind=b"room"):
     with tempfile.TemporaryFile() as lines, tempfile.TemporaryFile() as said:
-        lines.write(b"room %d %d %d\n" % (members, messages, fork))
+        lines.write(b"%s %d %d %d\n" % (kind, members, messages, fork))
         lines.seek(0)
         running = subprocess.Popen([program], stdin=lines, stdout=said)
         _, status, used = os.wait4(running.pid, 0)
@@ -50,4 +52,11 @@ for fork in (0, 10):
 for extremities in (100, 1_000):
     times = [min(told(members, extremities, 1)[0] for _ in range(runs)) / extremities for members in (2, 1_000)]
     print(f"{extremities} forward extremities: {times[0]:.2f} us an event with 2 members, {times[1]:.2f} us with 1,000", flush=True)
+for members, extremities in ((2, 100), (2, 1_000), (100, 1_000), (1_000, 100), (1_000, 200), (1_000, 400)):
+    time = min(told(members, extremities, 1, b"names")[0] for _ in range(max(1, runs // 5))) / extremities
+    print(f"{extremities} forward extremities, each another state, {members} members: {time:.1f} us an event", flush=True)
+for members, changes in ((2, 500), (2, 3_000), (100, 3_000), (1_000, 3_000), (2, 50_000)):
+    line, merged = ([told(members, changes, fork, b"names") for _ in range(max(1, runs // 5))] for fork in (0, 3))
+    time, memory = ((min(rows[at] for rows in merged) - min(rows[at] for rows in line)) / (changes / 3) for at in (0, 1))
+    print(f"merges of two states, {members} members, {changes} events: {time:.1f} us and {memory:.0f} B a merge", flush=True)
 PY

@@ -18,18 +18,20 @@ pub(crate) fn line_of(line: &str) -> Option<Line<'_>> {
         "send" => Some(Line::Send(words.parse().ok()?)),
         "read" => Some(Line::Read(reading_of(words)?)),
         "resolve" => Some(Line::Resolve(words)),
-        "room" => Some(Line::Room(receiving_of(words)?)),
+        "room" => Some(Line::Room(receiving_of(words, false)?)),
+        "names" => Some(Line::Room(receiving_of(words, true)?)),
         _ => None,
     }
 }
 
-fn receiving_of(words: &str) -> Option<Receiving> {
+fn receiving_of(words: &str, names: bool) -> Option<Receiving> {
     let (members, numbers) = words.split_once(' ')?;
     let (messages, fork) = numbers.split_once(' ')?;
     Some(Receiving {
         members: members.parse().ok()?,
         messages: messages.parse().ok()?,
         fork: fork.parse().ok()?,
+        names,
     })
 }
 

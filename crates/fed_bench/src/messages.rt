@@ -38,15 +38,16 @@ pub(crate) fn beginning(alloc: Global, members: u64, keys: StandIn) -> Result<Ve
 
 /// So many messages of the first user behind these events. Of each `fork` one after another, where that is 3 or more, the last but one follows
 /// the event before the one before it, and the last follows both. Where `fork` is 1, each follows the last of these events, so that all of them
-/// are forward extremities.
+/// are forward extremities. They may be changes of the user's display name in place of messages.
 pub(crate) fn messages(
     alloc: Global,
     beginning: &[Checked],
     count: u64,
     fork: u64,
+    names: bool,
     keys: &StandIn,
 ) -> Result<Vec<Checked>, Stop> {
-    let auth_events = auth_events(alloc, beginning)?;
+    let auth_events = auth_events(alloc, beginning, names)?;
     let mut messages = Vec::new(alloc);
     for number in 1..=count {
         let behind = places_behind(number, fork);
@@ -54,7 +55,8 @@ pub(crate) fn messages(
             event_at(beginning, &messages, behind[0]),
             event_at(beginning, &messages, behind[1]),
         ];
-        let message = message(alloc, number, prevs, &auth_events, keys)?;
+        let said = said(alloc, number, names)?;
+        let message = message(alloc, &said, prevs, &auth_events, keys)?;
         messages.push(message)?;
     }
     Ok(messages)
@@ -91,11 +93,11 @@ fn event_at<'a>(
 }
 
 // The ids of the auth events that a message of the first user has, as texts of JSON with commas between them: of the events that a room of
-// one user begins with all but the join rules.
-fn auth_events(alloc: Global, beginning: &[Checked]) -> Result<String, Stop> {
+// one user begins with all but the join rules, which a member event has too.
+fn auth_events(alloc: Global, beginning: &[Checked], names: bool) -> Result<String, Stop> {
     let mut ids = String::new(alloc);
     for event in beginning.get(..FIRST).unwrap_or(beginning) {
-        if event.event().kind() != "m.room.join_rules" {
+        if names || event.event().kind() != "m.room.join_rules" {
             push_id(alloc, event, &mut ids)?;
         }
     }
@@ -109,10 +111,22 @@ fn push_id(alloc: Global, event: &Checked, ids: &mut String) -> Result<(), Stop>
     Ok(())
 }
 
-// A small message of this number behind these events.
+// What a message of this number says, or a change of the display name, as members of JSON.
+fn said(alloc: Global, number: u64, names: bool) -> Result<String, Stop> {
+    if names {
+        return Ok(format!(in alloc;
+            "\"content\":{{\"displayname\":\"name {number}\",\"membership\":\"join\"}},\"state_key\":\"{USER}\",\"type\":\"m.room.member\""
+        )?);
+    }
+    Ok(format!(in alloc;
+        "\"content\":{{\"body\":\"message {number}\",\"msgtype\":\"m.text\"}},\"type\":\"m.room.message\""
+    )?)
+}
+
+// A small event that says this behind these events.
 fn message(
     alloc: Global,
-    number: u64,
+    said: &str,
     prevs: [Option<&Checked>; 2],
     auth_events: &str,
     keys: &StandIn,
@@ -127,7 +141,7 @@ fn message(
     }
     let depth = deepest.saturating_add(1);
     let text = format!(in alloc;
-        "{{\"auth_events\":[{auth_events}],\"content\":{{\"body\":\"message {number}\",\"msgtype\":\"m.text\"}},\"depth\":{depth},\"origin_server_ts\":{depth},\"prev_events\":[{prev}],\"room_id\":\"{ROOM}\",\"sender\":\"{USER}\",\"type\":\"m.room.message\"}}"
+        "{{\"auth_events\":[{auth_events}],\"depth\":{depth},\"origin_server_ts\":{depth},\"prev_events\":[{prev}],\"room_id\":\"{ROOM}\",\"sender\":\"{USER}\",{said}}}"
     )?;
     match read_within(alloc, text.as_bytes(), MAX_LEVELS) {
         Ok(parts) => sealed(alloc, parts, keys),

@@ -8,12 +8,13 @@ use std::alloc::Global;
 use std::time::Instant;
 
 /// What a room is of and receives: so many members, then so many messages, with a fork at each so many of them where that is 3 or more, and all
-/// beside one another where it is 1.
+/// beside one another where it is 1. In the place of each message the first user may change the own display name, which is state.
 #[derive(Clone, Copy)]
 pub(crate) struct Receiving {
     pub(crate) members: u64,
     pub(crate) messages: u64,
     pub(crate) fork: u64,
+    pub(crate) names: bool,
 }
 
 /// How many messages a room receives and accepts behind the events that it begins with, and the time in microseconds.
@@ -25,6 +26,7 @@ pub(crate) fn receive(rt: &HostRuntime, receiving: Receiving) -> Result<String, 
         &first,
         receiving.messages,
         receiving.fork,
+        receiving.names,
         &keys(alloc)?,
     )?;
     let mut room = begun(alloc, first)?;
