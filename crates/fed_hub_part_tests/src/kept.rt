@@ -266,7 +266,15 @@ fn is_sent_by(
     places: &[ServerIndex],
 ) -> Option<bool> {
     let (list, dests) = (list(alloc)?, servers(alloc, places)?);
-    is_sent_as_stored(alloc, room.room(), ServerIndex::new(0), &list, event, &dests).ok()
+    is_sent_as_stored(
+        alloc,
+        room.room(),
+        ServerIndex::new(0),
+        &list,
+        event,
+        &dests,
+    )
+    .ok()
 }
 
 #[test]

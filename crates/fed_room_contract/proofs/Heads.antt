@@ -31,9 +31,9 @@ contains-turned [] y x c = c
 contains-turned (z ∷ xs) y x c = elim (contains-cases z (xs ++ y ∷ []) x c) as (λ _. Contains (y ∷ z ∷ xs) x) [
   | inl same ↦ (1, omega arith, same)
   | inr later ↦ elim (contains-cases y xs x (contains-turned xs y x later)) as (λ _. Contains (y ∷ z ∷ xs) x) [
-      | inl same ↦ (0, omega arith, same)
-      | inr behind ↦ contains-later y (z ∷ xs) x (contains-later z xs x behind)
-    ]
+    | inl same ↦ (0, omega arith, same)
+    | inr behind ↦ contains-later y (z ∷ xs) x (contains-later z xs x behind)
+  ]
 ]
 
 -- ---- a number more in an ordered set
@@ -75,9 +75,9 @@ inserted-cases k x (y ∷ ks) c = by (nat_cmp k y) (inserted-cases k x ks) c
     by Greater rest there = elim (contains-cases y (insert_key nat_cmp ks k) x there) as (λ _. (x ≡ k) ⊎ Contains (y ∷ ks) x) [
       | inl same ↦ inr (0, omega arith, same)
       | inr later ↦ elim (rest later) as (λ _. (x ≡ k) ⊎ Contains (y ∷ ks) x) [
-          | inl same ↦ inl same
-          | inr behind ↦ inr (contains-later y ks x behind)
-        ]
+        | inl same ↦ inl same
+        | inr behind ↦ inr (contains-later y ks x behind)
+      ]
     ]
 
 pub all-inserted : (P : ℕ → Type 0) (k : ℕ) (ks : List ℕ) → All P ks → P k → All P (insert_key nat_cmp ks k)

@@ -21,8 +21,10 @@ returns-clause-there c = λ states made.
     let last : Stored = record { event = c.args.event.now; verdict = c.args.verdict } in
     let mine : IsMadeOver states merged over = subst (λ (o : Option ℕ). IfSome o (IsMadeOver states merged)) c.in-Some.is made in
     let keys : c.lay.new.state ≡ with_id_at merged.keys (kind_of event) (state_key_of event) (event_id_of event) =
-    c.in_ok-lay.ensures ∙ ap (λ (d : Data). with_id_at merged.keys (kind_of d) (state_key_of d) (event_id_of d)) c.event.ensures.event in
-    (mine.0, λ key missing.
-      ap (λ (s : StateMap). finite.get s key) c.in_ok-state.ensures
-      ∙ alike-with (state_at states over) merged.state merged.keys (kind_of event) (event_id_of event) (event_id_of event) mine.1 (state_key_of event) (is_rejected last) key
-      (ap (λ (s : StateMap). finite.contains_key s key) (sym keys) ∙ missing))
+    c.in_ok-lay.ensures ∙ ap (λ (d : Data). with_id_at merged.keys (kind_of d) (state_key_of d) (event_id_of d)) c.event.ensures.event in (
+      mine.0,
+      λ key missing.
+          ap (λ (s : StateMap). finite.get s key) c.in_ok-state.ensures
+          ∙ alike-with (state_at states over) merged.state merged.keys (kind_of event) (event_id_of event) (event_id_of event) mine.1 (state_key_of event) (is_rejected last) key
+          (ap (λ (s : StateMap). finite.contains_key s key) (sym keys) ∙ missing),
+    )
