@@ -6,14 +6,14 @@ use Rattle.fed_room_contract.specs.declared.arrival.Arrival.{Arrival}
 use Rattle.fed_room_contract.specs.declared.arrival.Arrival.TheVariants.{Ready, Told}
 use Rattle.fed_room_contract.specs.Graph.{is_ready}
 use Rattle.fed_room_contract.specs.Room.{RoomState, Rules, event_id, is_known, receipt_of, after_receipt, first_ready}
-use Rattle.fed_room_contract.specs.Store.{StoreState, with_room_for}
+use Rattle.fed_room_contract.specs.Store.{StoreState}
 
--- it is new and ready, and room is made for it
+-- it is new and ready, and nothing has changed
 pub record IsReady (old : StoreState) (event given : CheckedEvent) (new : StoreState) : Type 0 where
   pub same : given ≡ event
   pub unknown : is_known old.room (event_id event) ≡ false
   pub ready : is_ready old.room.stored event.event ≡ true
-  pub after : new ≡ with_room_for old (event_id event)
+  pub after : new ≡ old
 
 -- this becomes of it, whatever the rules
 pub record IsTold (old : StoreState) (event : CheckedEvent) (receipt : Receipt) (new : StoreState) : Type 0 where

@@ -26,6 +26,10 @@ pub record PreparedEvent : Type 0 where
 abbrev pub prepared_code : Coded PreparedEvent
 prepared_code = code_by (CheckedEvent × StateMap) (coded× checked_code state_code) (λ p. (p.event, p.before)) (λ p. record { event = p.0; before = p.1 }) (λ _. refl)
 
+-- an event that was prepared in the first room is so in the second one too
+abbrev pub StaysPrepared : {R : Type 0} → (R → PreparedEvent → Type 0) → R → R → Type 0
+StaysPrepared is_prepared room other = (prepared : PreparedEvent) → is_prepared room prepared → is_prepared other prepared
+
 -- the own server: its name, its key's name, how it signs, and the keys that check signatures
 pub record Signer : Type 0 where
   pub name : List ℕ

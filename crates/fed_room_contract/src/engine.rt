@@ -9,7 +9,7 @@ ghost use Rattle.fed_room_contract.specs.Graph.{stored_at, is_ready};
 ghost use Rattle.fed_room_contract.specs.Draft.{Bears};
 ghost use Rattle.fed_room_contract.specs.Lawful.{NamesStored, AreLawful};
 ghost use Rattle.fed_room_contract.specs.Room.{RoomState, Rules, event_id, receipt_of, after_receipt, first_ready, advanced, committed, extremities_of};
-ghost use Rattle.fed_room_contract.specs.Prepared.{PreparedEvent, signer_of, is_own_user, prepared_of};
+ghost use Rattle.fed_room_contract.specs.Prepared.{PreparedEvent, StaysPrepared, signer_of, is_own_user, prepared_of};
 
 use crate::draft::Draft;
 use crate::graph::Graph;
@@ -43,12 +43,13 @@ pub trait RoomEngine {
     ///
     /// # Errors
     ///
-    /// The event and `NoMemory`, of an event that would be stored or would wait; then the room is as it was.
+    /// The event and `NoMemory`, of an event that would be stored or would wait; then the room is as it was, and what was prepared stays so.
     fn receive(&mut self, alloc: Global, event: Checked) -> Result<Receipt, (Checked, NoMemory)>
         ensures receipt { IfOk result (λ r. r ≡ receipt_of (rules self.old) (room self.old) event) }
         ensures after { IfOk result (λ r. room self.new ≡ after_receipt (room self.old) event r) }
         ensures back { IfErr result (λ e. e.0 ≡ event) }
         ensures err { OnErr result (room self.new ≡ room self.old) }
+        ensures kept { OnErr result (StaysPrepared is_prepared self.old self.new) }
         ensures known { receipt_of (rules self.old) (room self.old) event ≡ receipt.Known → IsOk result }
         ensures dropped { receipt_of (rules self.old) (room self.old) event ≡ receipt.Dropped → IsOk result }
         ensures rules { rules self.new ≡ rules self.old };
@@ -58,17 +59,19 @@ pub trait RoomEngine {
     ///
     /// # Errors
     ///
-    /// `NoMemory`, where one is ready; then the room is as it was.
+    /// `NoMemory`, where one is ready; then the room is as it was, and what was prepared stays so.
     fn advance(&mut self, alloc: Global) -> Result<Option<(EventId, Receipt)>, NoMemory>
         ensures stored { IfOk result (λ told. told ≡ option_map
             (λ event. (event_id event, receipt.Stored ((rules self.old).decide (room self.old).stored event))) (first_ready (room self.old))) }
         ensures after { OnOk result (room self.new ≡ advanced (rules self.old) (room self.old)) }
         ensures err { OnErr result (room self.new ≡ room self.old) }
+        ensures kept { OnErr result (StaysPrepared is_prepared self.old self.new) }
         ensures none { first_ready (room self.old) ≡ None → IsOk result }
         ensures rules { rules self.new ≡ rules self.old };
 
-    /// Makes an event of a draft, and all growths that storing it takes. Nothing changes that can be seen. The event has the fields of
-    /// the draft, with its hash and the own signature, the room accepts it, and all that it names is stored.
+    /// Makes an event of a draft, and all growths that storing it takes. Nothing changes that can be seen, and where it is refused an event
+    /// that was prepared before stays prepared. The event has the fields of the draft, with its hash and the own signature, the room accepts
+    /// it, and all that it names is stored.
     ///
     /// # Errors
     ///
@@ -92,6 +95,7 @@ pub trait RoomEngine {
         ensures bears { IfOk result (λ p. Bears draft p.event.event) }
         ensures ready { IfOk result (λ p. is_ready (room self.old).stored p.event.event ≡ true) }
         ensures prepared { IfOk result (λ p. is_prepared self.new p) }
+        ensures kept { OnErr result (StaysPrepared is_prepared self.old self.new) }
         ensures stays { room self.new ≡ room self.old }
         ensures rules { rules self.new ≡ rules self.old };
 

@@ -3,6 +3,7 @@ ghost use Rattle.std.specs.Arc.{arc_value};
 ghost use Rattle.std.specs.Prelude.{◌≡◌, ◌∷◌, ◌++◌, [], ◌<◌, length, All, IfOk, IfSome, IsSome, OnOk, OnErr, None, Some, true, option_map};
 ghost use Rattle.fed_room_contract.specs.State.{entry_at, with_entry};
 ghost use Rattle.fed_room_contract.specs.Steps.{IsAlikeBut, AreAlikeBut, state_at};
+ghost use Rattle.fed_room_contract.specs.Store.{with_room_for};
 ghost use Rattle.fed_room_contract.specs.ChangeParts.{IsTagged, with_changes, tag_of as tag_of_key};
 ghost use Rattle.fed_room_contract.specs.StepParts.{AreSteps, IsLower, states_of, step_state, is_root_at};
 
@@ -10,6 +11,7 @@ use crate::change::{Change, bit_of, bits_with, change_at, changes_at, make_all, 
 use crate::differing::differing;
 use crate::state::State;
 use crate::step::{Laid, MAX_ABOVE, Over, Step, Whole};
+use crate::store::EventStore;
 use fed_event::EventId;
 use fed_json::NoMemory;
 use std::alloc::Global;
@@ -123,43 +125,56 @@ impl Steps {
         root(&self.steps, place) == root(&self.steps, other)
     }
 
-    /// Makes the next state the same as the one at a place, and room for it, so that `push_next` takes no memory.
+    /// Makes the next state the same as the one at a place, and room for it, so that `push_next` takes no memory; and room in a store for the
+    /// event of this id. Either both are made or none.
     ///
     /// # Errors
     ///
-    /// `NoMemory`; then the states are as they were.
-    pub fn set_same(&mut self, place: usize) -> Result<(), NoMemory>
+    /// `NoMemory`; then the states and the store are as they were.
+    pub fn set_same(
+        &mut self,
+        alloc: Global,
+        place: usize,
+        store: &mut EventStore,
+        event: &EventId,
+    ) -> Result<(), NoMemory>
         requires { place < length self.old.after }
         ensures ok { OnOk result (self.new ≡ record { after = self.old.after; next = Some (state_at self.old.after place) }) }
-        ensures err { OnErr result (self.new ≡ self.old) }
+        ensures room { OnOk result (store.new ≡ with_room_for store.old event.now) }
+        ensures err { OnErr result ((self.new ≡ self.old) × (store.new ≡ store.old)) }
     {
         self.steps.reserve(1)?;
+        store.reserve(alloc, event)?;
         let parent = root(&self.steps, place);
         self.next = Some(Step::Same { parent });
         Ok(())
     }
 
-    /// The same with an entry laid over the state at the place: the event of this id holds at the type and state key.
+    /// The same with an entry laid over the state at the place: the event holds at the type and state key.
     ///
     /// # Errors
     ///
-    /// `NoMemory`; then the states are as they were.
+    /// `NoMemory`; then the states and the store are as they were.
     pub fn set_laid(
         &mut self,
         alloc: Global,
         place: usize,
         kind: &str,
         state_key: &str,
-        id: EventId,
+        store: &mut EventStore,
+        event: &EventId,
     ) -> Result<(), NoMemory>
         requires { place < length self.old.after }
-        ensures ok { OnOk result (self.new ≡ record { after = self.old.after; next = Some (with_entry (state_at self.old.after place) kind.now state_key.now id) }) }
-        ensures err { OnErr result (self.new ≡ self.old) }
+        ensures ok { OnOk result (self.new ≡ record { after = self.old.after; next = Some (with_entry (state_at self.old.after place) kind.now state_key.now event.now) }) }
+        ensures room { OnOk result (store.new ≡ with_room_for store.old event.now) }
+        ensures err { OnErr result ((self.new ≡ self.old) × (store.new ≡ store.old)) }
     {
+        let id = event.copy(alloc)?;
         let mut changes = Vec::new(alloc);
         changes.push(Change::new(alloc, kind, state_key, id, true)?)?;
         self.steps.reserve(1)?;
         let next = step_with(alloc, &self.steps, place, changes)?;
+        store.reserve(alloc, event)?;
         self.next = Some(next);
         Ok(())
     }
@@ -169,22 +184,26 @@ impl Steps {
     ///
     /// # Errors
     ///
-    /// `NoMemory`; then the states are as they were.
+    /// `NoMemory`; then the states and the store are as they were.
     pub fn set_changed(
         &mut self,
         alloc: Global,
         place: usize,
         state: &State,
         keys: &State,
+        store: &mut EventStore,
+        event: &EventId,
     ) -> Result<(), NoMemory>
         requires place { place < length self.old.after }
         requires alike { IsAlikeBut keys.now (state_at self.old.after place) state.now }
         ensures ok { OnOk result (self.new ≡ record { after = self.old.after; next = Some state.now }) }
-        ensures err { OnErr result (self.new ≡ self.old) }
+        ensures room { OnOk result (store.new ≡ with_room_for store.old event.now) }
+        ensures err { OnErr result ((self.new ≡ self.old) × (store.new ≡ store.old)) }
     {
         let changes = changes_at(alloc, state, keys)?;
         self.steps.reserve(1)?;
         let next = step_with(alloc, &self.steps, place, changes)?;
+        store.reserve(alloc, event)?;
         self.next = Some(next);
         Ok(())
     }
@@ -193,12 +212,20 @@ impl Steps {
     ///
     /// # Errors
     ///
-    /// `NoMemory`; then the states are as they were.
-    pub fn set_whole(&mut self, state: State) -> Result<(), NoMemory>
+    /// `NoMemory`; then the states and the store are as they were.
+    pub fn set_whole(
+        &mut self,
+        alloc: Global,
+        state: State,
+        store: &mut EventStore,
+        event: &EventId,
+    ) -> Result<(), NoMemory>
         ensures ok { OnOk result (self.new ≡ record { after = self.old.after; next = Some state }) }
-        ensures err { OnErr result (self.new ≡ self.old) }
+        ensures room { OnOk result (store.new ≡ with_room_for store.old event.now) }
+        ensures err { OnErr result ((self.new ≡ self.old) × (store.new ≡ store.old)) }
     {
         self.steps.reserve(1)?;
+        store.reserve(alloc, event)?;
         self.next = Some(Step::Whole(Whole { state, over: None }));
         Ok(())
     }

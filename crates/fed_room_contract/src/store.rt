@@ -112,12 +112,12 @@ impl EventStore {
     }
 
     /// Takes in an event that comes, as far as it takes no verdict: one that is neither known nor ready waits, where fewer than
-    /// `MOST_WAITING` do, and else it is dropped. For one that is ready room is made, and it comes back to be stored.
+    /// `MOST_WAITING` do, and else it is dropped. One that is ready comes back to be stored, and the store is as it was.
     ///
     /// # Errors
     ///
-    /// The event and `NoMemory`, of an event that would be stored or would wait; then the store is as it was.
-    pub fn admit(&mut self, alloc: Global, event: Checked) -> Result<Arrival, (Checked, NoMemory)>
+    /// The event and `NoMemory`, of an event that would wait; then the store is as it was.
+    pub fn admit(&mut self, event: Checked) -> Result<Arrival, (Checked, NoMemory)>
         ensures arrival { IfOk result (λ arrival. IsArrival self.old event arrival self.new) }
         ensures back { IfErr result (λ e. e.0 ≡ event) }
         ensures err { OnErr result (self.new ≡ self.old) }
@@ -129,10 +129,7 @@ impl EventStore {
         }
         let lack = lack_of(&self.graph, event.event());
         if lack.is_none() {
-            return match self.reserve(alloc, event.event().id()) {
-                Ok(()) => Ok(Arrival::Ready(event)),
-                Err(error) => Err((event, error)),
-            };
+            return Ok(Arrival::Ready(event));
         }
         if self.waiting.len() >= MOST_WAITING {
             self.dropped = self.dropped.saturating_add(1);
@@ -190,22 +187,6 @@ impl EventStore {
         ensures { MatchOption result (first_ready self.now.room ≡ None) (IsFirstReady self.now.room) }
     {
         first_none(&self.lacks)
-    }
-
-    /// Makes room for the event that waits at this place, counted from 0, and gives its id.
-    ///
-    /// # Errors
-    ///
-    /// `NoMemory`; then the store is as it was.
-    pub fn reserve_waiting(&mut self, alloc: Global, place: usize) -> Result<EventId, NoMemory>
-        requires { place < length self.old.room.waiting }
-        ensures id { IfOk result (λ id. option_map event_id (slice_get self.old.room.waiting place) ≡ Some id) }
-        ensures ok { IfOk result (λ id. self.new ≡ with_room_for self.old id) }
-        ensures err { OnErr result (self.new ≡ self.old) }
-    {
-        let id = self.waiting[place].event().id().copy(alloc)?;
-        self.reserve(alloc, &id)?;
-        Ok(id)
     }
 
     /// Stores the event that waits at this place, counted from 0, with a verdict: it is the first that is ready, and room was made for
