@@ -2,6 +2,7 @@ pub mod Marks
 pub mod ChainMarks
 pub mod Resolved
 pub mod Unconflicteds
+pub mod Untouched
 pub mod Completed
 pub mod Named
 pub mod Agreement

@@ -75,16 +75,16 @@ module _ (events : List Stored) where
 
 -- ---- what stands at a key in the end
 
+pub entry-laid : (other state : StateMap) (q : StateKey) → finite.get (with_entries state (finite.entries other)) q ≡ or (finite.get other q) (finite.get state q)
+entry-laid other state q = by (find key_cmp q (finite.entries other)) refl ∙ ap (λ o. or o (finite.get state q)) (sym (finite.get-entries other q))
+  where
+    by : (o : Option (List ℕ)) → find key_cmp q (finite.entries other) ≡ o → finite.get (with_entries state (finite.entries other)) q ≡ or (find key_cmp q (finite.entries other)) (finite.get state q)
+    by None e = laid-other (finite.entries other) state q e ∙ ap (λ o. or o (finite.get state q)) (sym e)
+    by (Some id) e = laid-here (finite.entries other) state q id (finite.entries_sorted other) e ∙ ap (λ o. or o (finite.get state q)) (sym e)
+
 pub entry-resolved : (events : List Stored) (states : List StateMap) (q : StateKey)
     → finite.get (resolved_of events states) q ≡ or (finite.get (unconflicted states) q) (finite.get (checked_state events states) q)
-entry-resolved events states q = by (find key_cmp q (finite.entries (unconflicted states))) refl ∙ ap (λ o. or o (finite.get (checked_state events states) q)) (sym (finite.get-entries (unconflicted states) q))
-  where
-    by : (o : Option (List ℕ)) → find key_cmp q (finite.entries (unconflicted states)) ≡ o
-        → finite.get (with_entries (checked_state events states) (finite.entries (unconflicted states))) q ≡ or (find key_cmp q (finite.entries (unconflicted states))) (finite.get (checked_state events states) q)
-    by None e = laid-other (finite.entries (unconflicted states)) (checked_state events states) q e ∙ ap (λ o. or o (finite.get (checked_state events states) q)) (sym e)
-    by (Some id) e =
-        laid-here (finite.entries (unconflicted states)) (checked_state events states) q id (finite.entries_sorted (unconflicted states)) e
-        ∙ ap (λ o. or o (finite.get (checked_state events states) q)) (sym e)
+entry-resolved events states q = entry-laid (unconflicted states) (checked_state events states) q
 
 pub named-resolved : (events : List Stored) (states : List StateMap) → AllNameStored events states → NamesStored events (resolved_of events states)
 named-resolved events states all kind key id h = by (entry_at (unconflicted states) kind key) refl (sym (entry-resolved events states (kind, key)) ∙ h)

@@ -27,6 +27,11 @@ use Rattle.fed_resolve.proofs.Listed.{order-passes}
 use Rattle.fed_resolve.proofs.Named.{entry-resolved}
 use Rattle.fed_resolve.proofs.Unconflicteds.{entry-unconflicted}
 
+-- an event stands at its own type and state key
+pub own-key : (stored : Stored) (k : List ℕ) → state_key_in stored ≡ Some k → stands_at (kind_in stored) k stored ≡ true
+unfolding stands_at
+own-key stored k e = and_from (bytes_eq (kind_in stored) (kind_in stored)) (option_eq bytes_eq (Some k) (state_key_in stored)) (itself (kind_in stored)) (ap (option_eq bytes_eq (Some k)) e ∙ itself k)
+
 module _ (events : List Stored) (states : List StateMap) where
   abbrev Origin : StateKey → List ℕ → Type 0
   Origin key id = SomeStateHas states key id ⊎ IsOfConflict events states key id
@@ -39,11 +44,6 @@ module _ (events : List Stored) (states : List StateMap) where
 
   -- an event of the full conflicted set is laid over
   module _ (state : StateMap) (comes : Comes state) (place : ℕ) (conflicted : IsConflicted place) (stored : Stored) (there : slice_get events place ≡ Some stored) where
-    own_key : (k : List ℕ) → state_key_in stored ≡ Some k → stands_at (kind_in stored) k stored ≡ true
-    unfolding stands_at
-    own_key k e =
-        and_from (bytes_eq (kind_in stored) (kind_in stored)) (option_eq bytes_eq (Some k) (state_key_in stored)) (itself (kind_in stored)) (ap (option_eq bytes_eq (Some k)) e ∙ itself k)
-
     entered : (k : List ℕ) → state_key_in stored ≡ Some k → Comes (with_entry state (kind_in stored) k (id_of stored))
     entered k e key id h = by (eq_by_cmp key_cmp key (kind_in stored, k)) refl (sym (finite.get-insert key_cmp_total state (kind_in stored, k) (id_of stored) key) ∙ h)
       where
@@ -55,7 +55,7 @@ module _ (events : List Stored) (states : List StateMap) where
               stored = stored;
               conflicted = conflicted;
               there = there;
-              stands = ap (λ q. stands_at q.0 q.1 stored) same ∙ own_key k e;
+              stands = ap (λ q. stands_at q.0 q.1 stored) same ∙ own-key stored k e;
               named = cc;
             })
         by false t g = comes key id g
@@ -90,26 +90,25 @@ module _ (events : List Stored) (states : List StateMap) where
   abbrev other_set : List ℕ
   other_set = members events (is_other events states)
 
-  power-conflicted : All IsConflicted power_set
+  -- what is checked is of the full conflicted set
+  pub power-conflicted : All IsConflicted (power_order events power_set)
   power-conflicted =
-      All-weaker (λ p. is_power events states p ≡ true) IsConflicted (λ p h. (and_parts (is_full_conflicted events states p) (is_power_place events p || is_below_power events states p) h).0)
-      power_set (filter_passes (is_power events states) (places_below (length events)))
+      order-passes IsConflicted (has_chain_listed events power_set) (is_before_in_power events) power_set
+      (All-weaker (λ p. is_power events states p ≡ true) IsConflicted (λ p h. (and_parts (is_full_conflicted events states p) (is_power_place events p || is_below_power events states p) h).0)
+      power_set (filter_passes (is_power events states) (places_below (length events))))
 
-  other-conflicted : All IsConflicted other_set
-  other-conflicted =
-      All-weaker (λ p. is_other events states p ≡ true) IsConflicted (λ p h. (and_parts (is_full_conflicted events states p) (not (is_power events states p)) h).0)
-      other_set (filter_passes (is_other events states) (places_below (length events)))
+  pub all-conflicted : All IsConflicted (mainline_order events (levels_place events states) other_set)
+  all-conflicted =
+      order-passes IsConflicted at_once (is_before_in_mainline events (mainline events (levels_place events states))) other_set
+      (All-weaker (λ p. is_other events states p ≡ true) IsConflicted (λ p h. (and_parts (is_full_conflicted events states p) (not (is_power events states p)) h).0)
+      other_set (filter_passes (is_other events states) (places_below (length events))))
 
   module _ (start : Comes (unconflicted states)) where
     power-comes : Comes (power_state events states)
-    power-comes =
-        checked-comes (power_order events power_set) (unconflicted states) start
-        (order-passes IsConflicted (has_chain_listed events power_set) (is_before_in_power events) power_set power-conflicted)
+    power-comes = checked-comes (power_order events power_set) (unconflicted states) start power-conflicted
 
     all-comes : Comes (checked_state events states)
-    all-comes =
-        checked-comes (mainline_order events (levels_place events states) other_set) (power_state events states) power-comes
-        (order-passes IsConflicted at_once (is_before_in_mainline events (mainline events (levels_place events states))) other_set other-conflicted)
+    all-comes = checked-comes (mainline_order events (levels_place events states) other_set) (power_state events states) power-comes all-conflicted
 
     resolved-comes : Comes (resolved_of events states)
     resolved-comes key id h = by (finite.get (unconflicted states) key) refl (sym (entry-resolved events states key) ∙ h)

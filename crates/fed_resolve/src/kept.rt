@@ -1,10 +1,12 @@
 // State resolution of states that are kept by earlier ones.
 ghost use Rattle.std.specs.Prelude.{◌≡◌, ◌<◌, ◌∷◌, ℕ, All, Contains, IfOk, OnOk, bytes_eq, length, map, option_map};
+ghost use Rattle.std.specs.FinMap as finite;
 ghost use Rattle.std.specs.Option.{option_eq};
 ghost use Rattle.fed_room_contract.specs.Entry.{seen};
 ghost use Rattle.fed_room_contract.specs.State.{entry_at};
 ghost use Rattle.fed_room_contract.specs.Steps.{AreAlikeBut, IsAlikeBut, state_at};
 ghost use Rattle.fed_resolve.specs.Conflict.{is_full_conflicted, unconflicted as unconflicted_of};
+ghost use Rattle.fed_resolve.specs.ConflictParts.{AreKept};
 ghost use Rattle.fed_resolve.specs.Marks.{AreMarks};
 ghost use Rattle.fed_resolve.specs.Resolution.{resolved_of};
 ghost use Rattle.fed_resolve.specs.KeptParts.{HasKeyAt, HasKeysOf, IsWithout, agree_at, at_places, disputed_of};
@@ -47,8 +49,9 @@ pub fn resolve_kept(
     };
     let (agreed, set) = parted(alloc, graph, steps, places, *first, others, &keys)?;
     add_keys_of(alloc, graph, &set, &mut keys)?;
-    let state = check_set(alloc, Listing::Ready, graph, set, agreed.copy(alloc)?)?;
-    let state = with_entries(alloc, state, &agreed)?;
+    let kept = at_keys(alloc, &agreed, &keys)?;
+    let state = check_set(alloc, Listing::Ready, graph, set, agreed)?;
+    let state = with_entries(alloc, state, &kept)?;
     Ok(Merged { state, keys })
 }
 
@@ -74,6 +77,19 @@ fn parted(
     let agreed = without(steps.copy(alloc, first)?, &disputed);
     let set = kept_conflict(alloc, graph, steps, places, &disputed, &agreed)?;
     Ok((agreed, set))
+}
+
+// What a state has at the types and state keys of the entries of another one.
+fn at_keys(alloc: Global, state: &State, keys: &State) -> Result<State, NoMemory>
+    ensures { IfOk result (λ few. AreKept state.now (finite.entries keys.now) few) }
+{
+    let mut few = State::new(alloc);
+    for entry in &keys.entries(alloc)? {
+        if let Some(id) = state.get(entry.kind, entry.state_key) {
+            few.insert(alloc, entry.kind, entry.state_key, id.copy(alloc)?)?;
+        }
+    }
+    Ok(few)
 }
 
 // Of these entries those at whose types and state keys not all states have the same.
