@@ -3,7 +3,7 @@ ghost use Rattle.std.specs.Prelude.{◌≡◌, ◌≢◌, true, false, None, Som
 ghost use Rattle.std.specs.List.{list_all};
 ghost use Rattle.fed_room_contract.specs.Graph.{is_stored, is_ready};
 ghost use Rattle.fed_room_contract.specs.Room.{empty_room, event_id};
-ghost use Rattle.fed_room_contract.specs.Store.{after_store};
+ghost use Rattle.fed_room_contract.specs.Store.{after_store, with_room_for};
 ghost use Rattle.fed_room_contract.specs.StateRef.{seen as ref_seen};
 ghost use Rattle.fed_room.specs.StatesParts.{seen, after_seen, IsThere, IsThereIn, IsKeptIn};
 ghost use Rattle.fed_room.specs.States.{resolved_after, state_before, current_state, state_with, states_after};
@@ -154,15 +154,15 @@ impl Room {
         Ok((verdict, after))
     }
 
-    // Decides on an event that is ready, and makes the state after it the next one. An error leaves the room as it was.
+    // Decides on an event that is ready, and makes room for it and the state after it. An error leaves the room as it was.
     fn decide_next(&mut self, alloc: Global, event: &Checked) -> Result<Verdict, NoMemory>
         requires { is_ready self.old.store.room.stored event.now.event ≡ true }
         ensures verdict { IfOk result (λ verdict. verdict ≡ verdict_of self.old.store.room.stored event.now) }
-        ensures ok { IfOk result (λ verdict. self.new ≡ record { own = self.old.own; store = self.old.store; next = Some (state_with (state_before self.old.store.room.stored event.now.event) (record { event = event.now; verdict = verdict })) }) }
+        ensures ok { IfOk result (λ verdict. self.new ≡ record { own = self.old.own; store = with_room_for self.old.store (event_id event.now); next = Some (state_with (state_before self.old.store.room.stored event.now.event) (record { event = event.now; verdict = verdict })) }) }
         ensures err { OnErr result (self.new ≡ self.old) }
     {
         let (verdict, after) = self.decided(alloc, event)?;
-        after.keep(alloc, event.event(), &mut self.states)?;
+        after.keep(alloc, event.event(), &mut self.states, &mut self.store)?;
         Ok(verdict)
     }
 
@@ -187,12 +187,12 @@ impl Room {
         ensures receipt { IfOk result (λ r. r ≡ receipt_of room_rules (room_of self.old) event) }
         ensures after { IfOk result (λ r. room_of self.new ≡ after_receipt (room_of self.old) event r) }
         ensures back { IfErr result (λ e. e.0 ≡ event) }
-        ensures err { OnErr result (room_of self.new ≡ room_of self.old) }
+        ensures err { OnErr result (self.new ≡ self.old) }
         ensures known { receipt_of room_rules (room_of self.old) event ≡ receipt.Known → IsOk result }
         ensures dropped { receipt_of room_rules (room_of self.old) event ≡ receipt.Dropped → IsOk result }
         ensures own { self.new.own ≡ self.old.own }
     {
-        match self.store.admit(alloc, event)? {
+        match self.store.admit(event)? {
             Arrival::Ready(event) => match self.decide_next(alloc, &event) {
                 Ok(verdict) => {
                     self.store_next(event, verdict);
@@ -244,10 +244,11 @@ impl RoomEngine for Room {
         let Some(place) = self.store.first_ready() else {
             return Ok(None);
         };
-        let id = self.store.reserve_waiting(alloc, place)?;
-        let (verdict, after) = self.decided(alloc, &self.store.waiting()[place])?;
-        let event = self.store.waiting()[place].event();
-        after.keep(alloc, event, &mut self.states)?;
+        let waiting = self.store.waiting()[place].copy(alloc)?;
+        let event = waiting.event();
+        let id = event.id().copy(alloc)?;
+        let (verdict, after) = self.decided(alloc, &waiting)?;
+        after.keep(alloc, event, &mut self.states, &mut self.store)?;
         self.store.store_waiting(place, verdict);
         // The graph tells that what it stores now is one, which the proof needs of the states that are kept beside it.
         let stored = self.store.graph().events();
@@ -271,9 +272,10 @@ impl RoomEngine for Room {
         let shared = before.before(alloc)?;
         let after = before.after(alloc, &event, Verdict::Accepted)?;
         let state = shared.share(alloc, &mut self.states)?;
-        self.store.reserve(alloc, event.event().id())?;
-        after.keep(alloc, event.event(), &mut self.states)?;
-        Ok(Prepared::sharing(alloc, event, state)?)
+        let prepared = Prepared::sharing(alloc, event, state)?;
+        let event = prepared.event().event();
+        after.keep(alloc, event, &mut self.states, &mut self.store)?;
+        Ok(prepared)
     }
 
     fn commit(&mut self, prepared: Prepared) -> EventId {

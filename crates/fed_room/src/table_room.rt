@@ -58,8 +58,11 @@ impl RoomEngine for TableRoom {
     ghost lawful = { λ r. table_lawful r.table };
 
     fn receive(&mut self, alloc: Global, event: Checked) -> Result<Receipt, (Checked, NoMemory)> {
-        match self.store.admit(alloc, event)? {
+        match self.store.admit(event)? {
             Arrival::Ready(event) => {
+                if let Err(error) = self.store.reserve(alloc, event.event().id()) {
+                    return Err((event, error));
+                }
                 let verdict = self.table.verdict(event.event().id().as_str());
                 self.store.store(event, verdict);
                 Ok(Receipt::Stored(verdict))
@@ -72,7 +75,8 @@ impl RoomEngine for TableRoom {
         let Some(place) = self.store.first_ready() else {
             return Ok(None);
         };
-        let id = self.store.reserve_waiting(alloc, place)?;
+        let id = self.store.waiting()[place].event().id().copy(alloc)?;
+        self.store.reserve(alloc, &id)?;
         let verdict = self.table.verdict(id.as_str());
         self.store.store_waiting(place, verdict);
         Ok(Some((id, Receipt::Stored(verdict))))
@@ -90,8 +94,9 @@ impl RoomEngine for TableRoom {
             return Err(Refusal::NotAllowed(rule));
         }
         let before = self.table.state_before(alloc, event.event())?;
-        self.store.reserve(alloc, event.event().id())?;
-        Ok(Prepared::new(alloc, event, before)?)
+        let prepared = Prepared::new(alloc, event, before)?;
+        self.store.reserve(alloc, prepared.event().event().id())?;
+        Ok(prepared)
     }
 
     fn commit(&mut self, prepared: Prepared) -> EventId {

@@ -2,6 +2,7 @@ use Rattle.std.proofs.Common.{rules, ◌≡◌, List, true, Ok, Err, Some, refl,
 use Rattle.std.specs.Arc.{arc_value}
 use Rattle.std.specs.List.{list_all}
 use Rattle.serde_json.specs.Data.{Data}
+use Rattle.fed_event.specs.Checked.{CheckedEvent}
 use Rattle.fed_room_contract.specs.Graph.{IsGraph, is_stored, is_ready}
 use Rattle.fed_room_contract.specs.Lawful.{NamesStored}
 use Rattle.fed_room_contract.specs.Prepared.{PreparedEvent, signer_of}
@@ -58,7 +59,7 @@ returns-clause-told g c =
     subst (λ (xs : List StateMap). IsKeptIn xs c.in_ok-links.before) (sym (c.self.invariant.after ∙ ap (λ (r : RoomValue). states_after r.store.room.stored) c.self.view_is)) c.in_ok-links.ensures.kept in
     let before : arc_value c.in_ok-state.state ≡ state_before stored event.event =
     c.in_ok-state.ensures.state ∙ c.in_ok-shared.ensures.state states kept ∙ c.in_ok-links.ensures.before ∙ ap (resolved_after stored) (sym c.in_ok-event.ensures.prev_events) in
-    let made : c.in_ok-sharing.field-0 ≡ record { event = event; before = state_before stored event.event } = c.in_ok-sharing.ensures ∙ ap (λ b. record { event = event; before = b }) before in
+    let made : c.in_ok-prepared.prepared ≡ record { event = event; before = state_before stored event.event } = c.in_ok-prepared.ensures ∙ ap (λ b. record { event = event; before = b }) before in
     inl (ap (λ (p : PreparedEvent). Ok p) made
     ∙ sym (prepared ∙ accepted-by room_rules signer stored event c.in_ok-verdict.field-0 (sym c.in_ok-verdict.ensures) (sym c.rule.ensures ∙ c.in_default.is)))
 
@@ -70,7 +71,7 @@ returns-clause-named g c =
     let kept : IsKeptIn states c.in_ok-links.before =
     subst (λ (xs : List StateMap). IsKeptIn xs c.in_ok-links.before) (sym (c.self.invariant.after ∙ ap (λ (r : RoomValue). states_after r.store.room.stored) c.self.view_is)) c.in_ok-links.ensures.kept in
     let before = c.in_ok-state.ensures.state ∙ c.in_ok-shared.ensures.state states kept ∙ c.in_ok-links.ensures.before in
-    subst (NamesStored stored) (sym (ap (λ (p : PreparedEvent). p.before) c.in_ok-sharing.ensures ∙ before)) (resolved-named stored c.in_ok-links.links.prev_events.items graph)
+    subst (NamesStored stored) (sym (ap (λ (p : PreparedEvent). p.before) c.in_ok-prepared.ensures ∙ before)) (resolved-named stored c.in_ok-links.links.prev_events.items graph)
 
 pub returns-clause-ready : goal.returns-clause-ready
 returns-clause-ready g c =
@@ -84,12 +85,12 @@ returns-clause-ready g c =
     ∙ selection-stored stored (resolved_after stored (prev_events_for stored)) (resolved-named stored (prev_events_for stored) graph) (selector_of_draft c.args.draft) in
     let ready : is_ready stored event ≡ true =
     ready_naming stored event c.in_ok-links.links.prev_events.items c.in_ok-links.links.auth_events.items c.in_ok-event.ensures.prev_events c.in_ok-event.ensures.auth_events prev auth in
-    subst (λ (p : PreparedEvent). is_ready stored p.event.event ≡ true) (sym c.in_ok-sharing.ensures) ready
+    subst (λ (p : PreparedEvent). is_ready stored p.event.event ≡ true) (sym c.in_ok-prepared.ensures) ready
 
 pub returns-clause-prepared : goal.returns-clause-prepared
 returns-clause-prepared g c =
     let stored = c.args.self.now.store.room.stored in
-    let now : c.reserve.new.self.room.stored ≡ stored = ap (λ (s : StoreState). s.room.stored) c.in_ok-reserve.ensures.ok ∙ ap (λ (r : RoomValue). r.store.room.stored) c.self.view_is in
+    let now : c.keep.new.store.room.stored ≡ stored = ap (λ (s : StoreState). s.room.stored) c.in_ok-keep.ensures.room ∙ ap (λ (r : RoomValue). r.store.room.stored) c.self.view_is in
     let event = c.in_ok-event.event in
     let last : Stored = record { event = event; verdict = Accepted } in
     let states = c.self.inside.states.after in
@@ -99,14 +100,15 @@ returns-clause-prepared g c =
     let same : c.share.new.states ≡ c.self.inside.states = c.share.ensures.same in
     let after : after_seen states event.event c.in_ok-after.after ≡ state_with (state_before stored event.event) last =
     c.in_ok-after.ensures.state states kept ∙ ap (λ (b : StateMap). state_with b last) before in
-    let next : c.keep.new.states.next ≡ Some (state_with (state_before c.reserve.new.self.room.stored event.event) last) =
-    ap (λ (s : KeptStates). s.next) c.in_ok-keep.ensures.ok ∙ ap (λ (s : KeptStates). Some (after_seen s.after c.event-3.result.now c.in_ok-after.after)) same
-    ∙ ap (λ (e : Data). Some (after_seen states e c.in_ok-after.after)) c.event-3.ensures.event ∙ ap (λ (b : StateMap). Some b) after
+    let given : c.event-event.result.now ≡ event.event = c.event-event.ensures.event ∙ ap (λ (e : CheckedEvent). e.event) (c.event-2.ensures ∙ ap (λ (p : PreparedEvent). p.event) c.in_ok-prepared.ensures) in
+    let next : c.keep.new.states.next ≡ Some (state_with (state_before c.keep.new.store.room.stored event.event) last) =
+    ap (λ (s : KeptStates). s.next) c.in_ok-keep.ensures.ok ∙ ap (λ (s : KeptStates). Some (after_seen s.after c.event-event.result.now c.in_ok-after.after)) same
+    ∙ ap (λ (e : Data). Some (after_seen states e c.in_ok-after.after)) given ∙ ap (λ (b : StateMap). Some b) after
     ∙ ap (λ (events : List Stored). Some (state_with (state_before events event.event) (record { event = event; verdict = Accepted }))) (sym now) in
     record {
       reserved = search rules;
-      ready = ap (λ (events : List Stored). is_ready events c.in_ok-sharing.field-0.event.event) now ∙ returns-clause-ready g c;
-      next = next ∙ ap (λ (p : PreparedEvent). Some (state_with (state_before c.reserve.new.self.room.stored p.event.event) (record { event = p.event; verdict = Accepted }))) (sym c.in_ok-sharing.ensures);
+      ready = ap (λ (events : List Stored). is_ready events c.in_ok-prepared.prepared.event.event) now ∙ returns-clause-ready g c;
+      next = next ∙ ap (λ (p : PreparedEvent). Some (state_with (state_before c.keep.new.store.room.stored p.event.event) (record { event = p.event; verdict = Accepted }))) (sym c.in_ok-prepared.ensures);
     }
 
 pub keep-requires : goal.keep-requires

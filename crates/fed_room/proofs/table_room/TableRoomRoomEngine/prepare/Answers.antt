@@ -43,7 +43,7 @@ returns-clause-told g c =
     let event = c.in_ok-event.event in
     let prepared = prepared-event (rules_of table) signer stored c.args.draft no_links (links_seen c.none.result) refl c.none.ensures event c.in_ok-event.ensures.told in
     let decided : verdict_at table (event_id event) ≡ c.verdict.result = search rules in
-    let made : c.in_ok-new.field-0 ≡ record { event = event; before = before_at table event.event } = search rules in
+    let made : c.in_ok-prepared.prepared ≡ record { event = event; before = before_at table event.event } = search rules in
     inl (ap (λ (p : PreparedEvent). Ok p) made ∙ sym (prepared ∙ accepted-by (rules_of table) signer stored event c.verdict.result decided (sym c.rule.ensures ∙ c.in_default.is)))
 
 pub returns-clause-named : goal.returns-clause-named
@@ -51,7 +51,7 @@ returns-clause-named g c =
     let table = c.self.inside.table in
     let stored = (room_of c.args.self.now).stored in
     let event = c.in_ok-event.event.event in
-    let before : c.in_ok-new.field-0.before ≡ before_at table event = ap (λ (p : PreparedEvent). p.before) c.in_ok-new.ensures ∙ c.in_ok-before.ensures ∙ ap (before_at table) c.event-3.ensures.event in
+    let before : c.in_ok-prepared.prepared.before ≡ before_at table event = ap (λ (p : PreparedEvent). p.before) c.in_ok-prepared.ensures ∙ c.in_ok-before.ensures ∙ ap (before_at table) c.event-3.ensures.event in
     let ready : is_ready stored event ≡ true =
     ready_naming stored event [] [] (c.in_ok-event.ensures.prev_events ∙ ap (λ (l : EventLinks). l.prev_events) c.none.ensures) (c.in_ok-event.ensures.auth_events ∙ ap (λ (l : EventLinks). l.auth_events) c.none.ensures) refl refl in
     subst (NamesStored stored) (sym before) (before_stored stored event (finite.get table.rows (event_id_of event)) ready)
@@ -62,12 +62,12 @@ returns-clause-ready g c =
     let event = c.in_ok-event.event.event in
     let ready : is_ready stored event ≡ true =
     ready_naming stored event [] [] (c.in_ok-event.ensures.prev_events ∙ ap (λ (l : EventLinks). l.prev_events) c.none.ensures) (c.in_ok-event.ensures.auth_events ∙ ap (λ (l : EventLinks). l.auth_events) c.none.ensures) refl refl in
-    subst (λ (p : PreparedEvent). is_ready stored p.event.event ≡ true) (sym c.in_ok-new.ensures) ready
+    subst (λ (p : PreparedEvent). is_ready stored p.event.event ≡ true) (sym c.in_ok-prepared.ensures) ready
 
 pub returns-clause-prepared : goal.returns-clause-prepared
 returns-clause-prepared g c =
     let now : c.reserve.new.self.room.stored ≡ (room_of c.args.self.now).stored = ap (λ (s : StoreState). s.room.stored) c.in_ok-reserve.ensures.ok ∙ ap (λ (r : TableRoomState). r.store.room.stored) c.self.view_is in
     record {
       reserved = search rules;
-      ready = ap (λ (events : List Stored). is_ready events c.in_ok-new.field-0.event.event) now ∙ returns-clause-ready g c;
+      ready = ap (λ (events : List Stored). is_ready events c.in_ok-prepared.prepared.event.event) now ∙ returns-clause-ready g c;
     }
