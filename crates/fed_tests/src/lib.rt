@@ -9,6 +9,7 @@
 //! - `connections`: exchanges whose writer takes nothing or whose reader gives no reply
 //! - `requests`: requests on their whole way: signed, written, read and answered; copies, and replies that go out
 //! - `servers`: copies of lists and sets of servers
+//! - `refusals`: why an EDU is not offered and no server is named, as texts
 //! - `rooms`: why no room begins, as texts
 //! - `worlds`: worlds by what others see of them, and setups that no world begins with
 //! - `runs`: runs over readers and writers that give and take little, fail, or never end
@@ -20,6 +21,8 @@ mod connections;
 mod events;
 #[cfg(test)]
 mod inboxes;
+#[cfg(test)]
+mod refusals;
 #[cfg(test)]
 mod replies;
 #[cfg(test)]
