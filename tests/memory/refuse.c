@@ -1,19 +1,47 @@
-// Preloaded into a program: refuses its allocation number REFUSE_AT, counted from 1, and leaves a file REFUSE_LOG where it did.
+// Preloaded into a program: refuses one of its allocations.
+//
+//     REFUSE_AT=N           the one of this number, counted from 1; 0 refuses none
+//     REFUSE_THREAD=NAME    of this thread alone: `0` is the first one, and `0.2` the second that it made; without it all of them count
+//     REFUSE_ASLEEP=1       counted from the first time on that the program has slept
+//     REFUSE_LOG=FILE       is made where an allocation was refused
+//     REFUSE_COUNTS=FILE    gets a line for each thread at the end of the program: its name, and how many allocations were counted
 #define _GNU_SOURCE
 #include <dlfcn.h>
 #include <fcntl.h>
+#include <pthread.h>
+#include <stdatomic.h>
+#include <stdio.h>
 #include <stdlib.h>
+#include <string.h>
+#include <sys/syscall.h>
+#include <time.h>
 #include <unistd.h>
 
-static long left = -1;
+#define MOST_THREADS 256
+
+// What is known of a thread, and what it was made to run. It lies in room of its own, so that none of this takes memory.
+struct thread {
+    char name[64];
+    int made;
+    long count;
+    void *(*run)(void *);
+    void *with;
+};
+
+static struct thread threads[MOST_THREADS] = {{.name = "0"}};
+static atomic_int made = 1;
+static atomic_int has_slept;
+static _Thread_local struct thread *own __attribute__((tls_model("initial-exec")));
+
+static struct thread *self(void) { return own ? own : &threads[0]; }
 
 static int refused(void) {
-    if (left < 0) {
-        const char *at = getenv("REFUSE_AT");
-        left = at ? atol(at) : 0;
-    }
-    if (left == 0 || --left != 0) return 0;
-    const char *log = getenv("REFUSE_LOG");
+    static atomic_long all;
+    const char *at = getenv("REFUSE_AT"), *thread = getenv("REFUSE_THREAD"), *log = getenv("REFUSE_LOG");
+    if (getenv("REFUSE_ASLEEP") && !has_slept) return 0;
+    long count = ++self()->count, place = ++all;
+    if (thread && strcmp(thread, self()->name) != 0) return 0;
+    if ((thread ? count : place) != (at ? atol(at) : 0)) return 0;
     if (log) close(open(log, O_CREAT | O_WRONLY, 0600));
     return 1;
 }
@@ -28,4 +56,37 @@ void *realloc(void *old, size_t size) {
     static void *(*next)(void *, size_t);
     if (!next) next = dlsym(RTLD_NEXT, "realloc");
     return refused() ? NULL : next(old, size);
+}
+
+static void *begin(void *made) {
+    own = made;
+    return own->run(own->with);
+}
+
+int pthread_create(pthread_t *id, const pthread_attr_t *how, void *(*run)(void *), void *with) {
+    static int (*next)(pthread_t *, const pthread_attr_t *, void *(*)(void *), void *);
+    if (!next) next = dlsym(RTLD_NEXT, "pthread_create");
+    int place = atomic_fetch_add(&made, 1);
+    if (place >= MOST_THREADS) abort();
+    struct thread *child = &threads[place];
+    snprintf(child->name, sizeof child->name, "%.48s.%d", self()->name, ++self()->made);
+    child->run = run;
+    child->with = with;
+    return next(id, how, begin, child);
+}
+
+int nanosleep(const struct timespec *span, struct timespec *left) {
+    static int (*next)(const struct timespec *, struct timespec *);
+    if (!next) next = dlsym(RTLD_NEXT, "nanosleep");
+    int status = next(span, left);
+    has_slept = 1;
+    return status;
+}
+
+// A program ends by `_exit`, at which no destructor runs.
+void _exit(int status) {
+    const char *path = getenv("REFUSE_COUNTS");
+    int to = path ? open(path, O_CREAT | O_WRONLY | O_TRUNC, 0600) : -1;
+    for (int place = 0; to >= 0 && place < made && place < MOST_THREADS; place++) dprintf(to, "%s %ld\n", threads[place].name, threads[place].count);
+    for (;;) syscall(SYS_exit_group, status);
 }

@@ -14,13 +14,13 @@ class Program:
     def __init__(self, path, folder, *words):
         self.words, self.folder, self.numbers, self.runs = [path, *words], folder, itertools.count(1), 0
         self.shim = folder / "refuse.so"
-        subprocess.run(["cc", "-shared", "-fPIC", "-O1", "-o", self.shim, HERE / "refuse.c", "-ldl"], check=True)
+        subprocess.run(["cc", "-shared", "-fPIC", "-O1", "-o", self.shim, HERE / "refuse.c", "-ldl", "-lpthread"], check=True)
 
-    def run(self, lines, at):
+    def run(self, lines, at, **more):
         """Its lines, its status, what it told of faults, and whether an allocation was refused."""
         self.runs = next(self.numbers)
         log = self.folder / f"refused-{self.runs}"
-        env = dict(os.environ, LD_PRELOAD=str(self.shim), REFUSE_AT=str(at), REFUSE_LOG=str(log))
+        env = dict(os.environ, LD_PRELOAD=str(self.shim), REFUSE_AT=str(at), REFUSE_LOG=str(log), **more)
         text = "".join(f"{it}\n" for it in lines)
         try:
             done = subprocess.run(self.words, input=text, env=env, capture_output=True, text=True, timeout=60)
