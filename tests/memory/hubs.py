@@ -131,7 +131,7 @@ class Hubs:
         lines, status, told, _ = self.run(self.commands, "0", 0, REFUSE_COUNTS=str(path))
         if (lines, status, told) != ([it for it in self.told if it is not None], 0, ""):
             sys.exit(f"{self.name}: with all memory: status {status}, {lines}, {told!r}")
-        return [(name, int(count)) for name, count in map(str.split, path.read_text().splitlines())]
+        return [(name, int(count)) for name, count, *_ in map(str.split, path.read_text().splitlines())]
 
     def refused_in_turn(self, thread, first, last):
         """The commands that told that memory ran out, where each allocation from one to another is refused in a run that is right."""

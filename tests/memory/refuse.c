@@ -4,7 +4,8 @@
 //     REFUSE_THREAD=NAME    of this thread alone: `0` is the first one, and `0.2` the second that it made; without it all of them count
 //     REFUSE_ASLEEP=1       counted from the first time on that the program has slept
 //     REFUSE_LOG=FILE       is made where an allocation was refused
-//     REFUSE_COUNTS=FILE    gets a line for each thread at the end of the program: its name, and how many allocations were counted
+//     REFUSE_COUNTS=FILE    gets a line for each thread at the end of the program: its name, how many allocations were counted, how many bytes these
+//                           were together, and how many the largest was
 #define _GNU_SOURCE
 #include <dlfcn.h>
 #include <fcntl.h>
@@ -23,7 +24,7 @@
 struct thread {
     char name[64];
     int made;
-    long count;
+    long count, bytes, largest;
     void *(*run)(void *);
     void *with;
 };
@@ -35,12 +36,15 @@ static _Thread_local struct thread *own __attribute__((tls_model("initial-exec")
 
 static struct thread *self(void) { return own ? own : &threads[0]; }
 
-static int refused(void) {
+static int refused(long size) {
     static atomic_long all;
+    struct thread *mine = self();
     const char *at = getenv("REFUSE_AT"), *thread = getenv("REFUSE_THREAD"), *log = getenv("REFUSE_LOG");
     if (getenv("REFUSE_ASLEEP") && !has_slept) return 0;
-    long count = ++self()->count, place = ++all;
-    if (thread && strcmp(thread, self()->name) != 0) return 0;
+    long count = ++mine->count, place = ++all;
+    mine->bytes += size;
+    if (size > mine->largest) mine->largest = size;
+    if (thread && strcmp(thread, mine->name) != 0) return 0;
     if ((thread ? count : place) != (at ? atol(at) : 0)) return 0;
     if (log) close(open(log, O_CREAT | O_WRONLY, 0600));
     return 1;
@@ -49,13 +53,13 @@ static int refused(void) {
 void *malloc(size_t size) {
     static void *(*next)(size_t);
     if (!next) next = dlsym(RTLD_NEXT, "malloc");
-    return refused() ? NULL : next(size);
+    return refused(size) ? NULL : next(size);
 }
 
 void *realloc(void *old, size_t size) {
     static void *(*next)(void *, size_t);
     if (!next) next = dlsym(RTLD_NEXT, "realloc");
-    return refused() ? NULL : next(old, size);
+    return refused(size) ? NULL : next(old, size);
 }
 
 static void *begin(void *made) {
@@ -83,10 +87,19 @@ int nanosleep(const struct timespec *span, struct timespec *left) {
     return status;
 }
 
-// A program ends by `_exit`, at which no destructor runs.
-void _exit(int status) {
+static void tell(void) {
     const char *path = getenv("REFUSE_COUNTS");
     int to = path ? open(path, O_CREAT | O_WRONLY | O_TRUNC, 0600) : -1;
-    for (int place = 0; to >= 0 && place < made && place < MOST_THREADS; place++) dprintf(to, "%s %ld\n", threads[place].name, threads[place].count);
+    for (int place = 0; to >= 0 && place < made && place < MOST_THREADS; place++) {
+        struct thread *it = &threads[place];
+        dprintf(to, "%s %ld %ld %ld\n", it->name, it->count, it->bytes, it->largest);
+    }
+}
+
+__attribute__((destructor)) static void end(void) { tell(); }
+
+// A program with threads ends by this, at which no destructor runs.
+void _exit(int status) {
+    tell();
     for (;;) syscall(SYS_exit_group, status);
 }
