@@ -9,14 +9,15 @@ It fails unless
 - a message takes as many allocations in a room of 1,000 members as in one of 2, in a line and where each tenth event follows two of one state;
 - a change of a member's name, which is state, takes at most twice as many there;
 - two states that differ in names are merged by at most three allocations for a member;
+- an equal state more that is resolved takes at most nine, those among them that read it;
 - a reply takes no more allocations in a packed store than in a list, and twice as many replies at most 2.3 times the bytes;
 - the head of a request that announces 16,000,000 bytes takes no more than some 1,048,576 at once.
 """
-import json
 import pathlib
 import sys
 import tempfile
 
+from calls import event, text
 from refusing import HERE, Program
 
 CRATES = HERE.parent.parent / "crates"
@@ -54,6 +55,14 @@ def rooms(bench):
     most(f"a merge, with 1,000 members, beside {few:.1f} with 2", many, few + 3 * 1_000)
 
 
+def states(vectors):
+    create, _ = event("m.room.create", {"creator": "@u:a", "room_version": "10"}, {"creator": "@u:a"}, [], [], state_key="")
+    graph = [{"event": create, "verdict": "accepted"}]
+    lines = (text({"call": "resolution", "graph": graph, "keys": "trusting", "operations": [{"resolve": [[0]] * count}]}) for count in (40, 80))
+    few, many = (vectors.asked(line)[0] for line in lines)
+    most("an equal state more", (many - few) / 40, 9)
+
+
 def stores(replies):
     listed, packed = (replies.each(f"{kind} accepted {{}}", 1_000) for kind in ("list", "packed"))
     most(f"a reply that is kept and got, packed, beside {listed:.1f} in a list", packed, listed)
@@ -62,8 +71,8 @@ def stores(replies):
 
 
 def heads(vectors):
-    text = "PUT /p HTTP/1.1\r\nContent-Length: 16000000\r\n\r\n"
-    _, _, largest = vectors.asked(json.dumps({"call": "stream", "kind": "requests", "text": text}))
+    head = "PUT /p HTTP/1.1\r\nContent-Length: 16000000\r\n\r\n"
+    _, _, largest = vectors.asked(text({"call": "stream", "kind": "requests", "text": head}))
     most("the largest allocation for the head of a request of 16,000,000 bytes", largest, 1_100_000)
 
 
@@ -74,6 +83,7 @@ def main():
         bench, replies, vectors = (Counted(path, pathlib.Path(folder)) for path in paths)
         rooms(bench)
         stores(replies)
+        states(vectors)
         heads(vectors)
 
 
