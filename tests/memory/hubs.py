@@ -195,7 +195,8 @@ class Hubs:
 
 def main():
     path = pathlib.Path(sys.argv[1] if len(sys.argv) > 1 else PLAY / "out" / "fed_hub_play").resolve()
-    with tempfile.TemporaryDirectory() as folder, concurrent.futures.ThreadPoolExecutor(os.cpu_count()) as pool:
+    # Each run rests for a while.
+    with tempfile.TemporaryDirectory() as folder, concurrent.futures.ThreadPoolExecutor(3 * os.cpu_count()) as pool:
         program = Program(path, pathlib.Path(folder))
         found = set()
         for name, script in {**SCRIPTS, "two clients send 60 events each": crossing(60)}.items():
