@@ -5,8 +5,8 @@
 #     bench/loop.sh [RUNS [EVENTS [CLIENTS [PEER]]]]
 #
 # PEER is a program that does the same for `PEER loop --events N --clients N`, to compare with: the two are run in turn. Prints the time of the
-# fastest run, from the start of the process to its end, events a second and the peak memory, and the ratio of the times. Figures of two
-# machines can't be compared.
+# fastest run, from the start of the process to its end, events a second and the peak memory, and the ratio of the times. What a run takes
+# less than this script itself, some 14 MiB, is not seen in the peak. Figures of two machines can't be compared.
 set -e
 here=$(cd "$(dirname "$0")" && pwd)
 program=$here/../crates/fed/out/fed
