@@ -3,11 +3,12 @@
 
     tests/memory/hubs.py [PROGRAM]
 
-The scripts below, and one of 120 events, ask hubs with all of their threads one thing after another (docs/SCRIPTS.md), so that each thread makes the same allocations in
-every run. Each allocation of each thread is refused in a run of its own, once all hubs have begun. It fails unless in each of these runs all lines
-are told as is written here, but for at most one; and that one
+The scripts below, and one of 120 events, ask hubs with all of their threads one thing after another (docs/SCRIPTS.md), so that each thread makes
+the same allocations in every run. Each allocation of each thread is refused in a run of its own, once all hubs have begun. It fails unless in each of
+these runs all lines are told as is written here, but for at most one; and that one
 
-- is empty, or the beginning of a report, where there was no memory for what is told; or is the last, where the script's own thread had none to read the next line; or
+- is empty, or the beginning of a report, where there was no memory for what is told; or is the last, where the script's own thread had none to read
+  the next line; or
 - tells that memory ran out (a request is answered by 500): then what the board shows is as before, and the same asked again tells what is written,
   as do all lines behind it, with what the hubs report at their ends;
 
@@ -34,8 +35,8 @@ REFUSED = {"refused out of memory", "no memory", "not finished: out of memory", 
 # The calls that take memory, and whether each answers a want of it itself: what a thread takes of a request is answered by 500, and brought again.
 CALLS = {"send", "edu", "shut", "drain", "turns", "store", "finish"}
 
-# How many allocations, one after another, one worker refuses.
-TURN = 50
+# How many allocations, one after another, one worker refuses, and how many runs may be made again.
+TURN, MOST_AGAIN = 50, 10
 
 # A command, and what it tells. The beginning, up to `rest`, tells nothing. A hub is shut down twice where a thread then goes on until it is: the first
 # time may be refused.
@@ -114,7 +115,7 @@ class Hubs:
     """A script on hubs: its commands, and what each tells, if it tells anything."""
 
     def __init__(self, program, name, script):
-        self.program, self.name = program, name
+        self.program, self.name, self.again = program, name, []
         self.commands, self.told = steps_of(script)
         self.first = next(place for place, told in enumerate(self.told) if told is not None)
         self.boards = tuple(it for it in dict.fromkeys(self.commands) if it.startswith("delivered "))
@@ -150,14 +151,16 @@ class Hubs:
         for _ in range(2):
             try:
                 return self.refused(thread, at)
-            except (Wrong, SystemExit):
-                pass
+            except (Wrong, SystemExit) as wrong:
+                self.again.append(str(wrong))
         return self.refused(thread, at)
 
     def refused(self, thread, at):
         """The place of the command that told that memory ran out, if one did, in a run that is right."""
         want = [it for it in self.told if it is not None]
-        lines, status, told, _ = self.run(self.commands, thread, at)
+        lines, status, told, was_refused = self.run(self.commands, thread, at)
+        if not was_refused:
+            self.fail(thread, at, "it was not made")
         is_cut = status == 1 and WRONG_LINE.fullmatch(told)
         if not is_cut and (status != 0 or told or len(lines) != len(want)):
             self.fail(thread, at, f"status {status}", lines, told)
@@ -198,7 +201,7 @@ def main():
     # Each run rests for a while.
     with tempfile.TemporaryDirectory() as folder, concurrent.futures.ThreadPoolExecutor(3 * os.cpu_count()) as pool:
         program = Program(path, pathlib.Path(folder))
-        found = set()
+        found, again = set(), []
         for name, script in {**SCRIPTS, "two clients send 60 events each": crossing(60)}.items():
             hubs = Hubs(program, name, script)
             turns = [(thread, at, min(at + TURN - 1, count)) for thread, count in hubs.counts() for at in range(1, count + 1, TURN)]
@@ -206,8 +209,13 @@ def main():
                 found.update(*pool.map(lambda turn: hubs.refused_in_turn(*turn), turns))
             except Wrong as wrong:
                 sys.exit(str(wrong))
+            again += hubs.again
     if missing := CALLS - found:
         sys.exit(f"no run was refused at these: {', '.join(sorted(missing))}")
+    for wrong in again:
+        print(f"made again: {wrong}")
+    if len(again) > MOST_AGAIN:
+        sys.exit(f"{len(again)} runs were made again, and not at most {MOST_AGAIN}")
     print(f"{program.runs} runs of {len(SCRIPTS) + 1} scripts: each allocation of each thread refused")
 
 
