@@ -29,6 +29,8 @@ begins_sound kind s kept at = record {
   head = λ e. absurd (true≢false (sym e));
   text = λ e. absurd (true≢false (sym e));
   body = λ e. absurd (true≢false (sym e));
+  no_text_room = λ e. absurd (true≢false (sym e));
+  no_body_room = λ e. absurd (true≢false (sym e));
 }
 
 -- behind a piece
@@ -41,6 +43,8 @@ waits_sound kind old new piece failed fresh x waits =
       head = λ e. absurd (true≢false (sym e));
       text = λ e. absurd (true≢false (sym e));
       body = λ e. absurd (true≢false (sym e));
+      no_text_room = λ e. absurd (true≢false (sym e));
+      no_body_room = λ e. absurd (true≢false (sym e));
     }
 
 -- the same is kept
@@ -51,6 +55,8 @@ same_sound kind old new failed same fresh x = record {
   head = λ e. absurd (true≢false (sym e ∙ fresh));
   text = λ e. absurd (true≢false (sym e ∙ fresh));
   body = λ e. absurd (true≢false (sym e ∙ fresh));
+  no_text_room = λ e. absurd (true≢false (sym e ∙ fresh));
+  no_body_room = λ e. absurd (true≢false (sym e ∙ fresh));
 }
 
 -- some bytes stand until it has failed

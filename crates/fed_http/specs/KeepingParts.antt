@@ -64,13 +64,15 @@ IsSound k = ∥ ((kind : Kind) × ((bytes : List ℕ) × IsKept kind k bytes)) �
 abbrev pub IsSoundFor : Kind → Kept → Type 0
 IsSoundFor kind k = ∥ ((bytes : List ℕ) × IsKept kind k bytes) ∥₁
 
--- what a reader keeps of a message that has not ended; and nothing once it has failed
+-- what a reader keeps of a message that has not ended; and nothing, nor memory for it, once it has failed
 pub record IsReading (kind : Kind) (s : State) (failed : Bool) : Type 0 where
   pub sound : failed ≡ false → (bytes : List ℕ) × (IsKept kind (kept_of s) bytes × HasNoText kind bytes)
   pub unended : failed ≡ false → s.place ≢ Ended
   pub head : failed ≡ true → s.head ≡ 0
   pub text : failed ≡ true → s.text.items ≡ []
   pub body : failed ≡ true → s.body.items ≡ []
+  pub no_text_room : failed ≡ true → vec_capacity s.text ≡ 0
+  pub no_body_room : failed ≡ true → vec_capacity s.body ≡ 0
 
 -- there is memory for what so many bytes bring to the text
 abbrev pub HasTextRoom : State → ℕ → Type 0

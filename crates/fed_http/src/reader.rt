@@ -20,7 +20,7 @@ use std::marker::Model;
 ///   most `MAX_HEAD` bytes. A body has at most `MAX_BODY`.
 ///
 /// Of the bytes since the last message it keeps the head so far, and once this is whole only its parts, as a message has them; the body so
-/// far; and a chunk line or a trailer that has not ended. `held` says how many bytes these are. It looks at each byte a few times, in whatever
+/// far; and a chunk line or a trailer that has not ended. `held` says how many bytes these are. One that has failed keeps no memory. It looks at each byte a few times, in whatever
 /// pieces they come, and at none past a limit. For a body in chunks it takes memory for as many bytes as the piece has, or for as many as the
 /// body may still have, if these are fewer.
 ///

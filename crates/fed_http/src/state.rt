@@ -413,6 +413,9 @@ impl State {
         ensures head { self.new.head ≡ 0 }
         ensures text { self.new.text.items ≡ [] }
         ensures body { self.new.body.items ≡ [] }
+        ensures text_room { vec_capacity self.new.text ≡ 0 }
+        ensures body_room { vec_capacity self.new.body ≡ 0 }
+        ensures start { self.new.start ≡ None }
     {
         self.place = Place::InHead;
         self.at = TextPlace::EmptyLines;
