@@ -3,7 +3,7 @@ use Rattle.std.proofs.Common.{◌≡◌, ◌<◌, ℕ, List, [], ◌++◌, All, 
 use Rattle.std.specs.Prelude.{codes}
 use Rattle.std.specs.FinMap as finite
 use Rattle.fed_room_contract.specs.declared.graph.Stored.{Stored}
-use Rattle.fed_room_contract.specs.Graph.{IsGraph}
+use Rattle.fed_room_contract.specs.Graph.{IsAuthGraph}
 use Rattle.fed_room_contract.specs.State.{StateMap, entry_at}
 use Rattle.fed_room_contract.specs.Lawful.{NamesStored}
 use Rattle.fed_resolve.specs.Chain.{members, place_of}
@@ -21,10 +21,10 @@ use Rattle.fed_resolve.proofs.GrownOrders.{power-same, mainline_order-same}
 use Rattle.fed_resolve.proofs.GrownChecks.{checked-same}
 
 -- states that name stored events resolve to one that does
-pub names_stored : (events : List Stored) (states : List StateMap) → IsGraph events → AllNameStored events states → NamesStored events (resolved_of events states)
+pub names_stored : (events : List Stored) (states : List StateMap) → IsAuthGraph events → AllNameStored events states → NamesStored events (resolved_of events states)
 names_stored events states graph all = named-resolved events states all
 
-module _ (events more : List Stored) (states : List StateMap) (graph : IsGraph (events ++ more)) (all : AllNameStored events states) where
+module _ (events more : List Stored) (states : List StateMap) (graph : IsAuthGraph (events ++ more)) (all : AllNameStored events states) where
   abbrev whole : List Stored
   whole = events ++ more
 

@@ -8,7 +8,7 @@ use Rattle.std.specs.Cmp.{IsTotalOrder}
 use Rattle.std.specs.Cmp.Lexicographic.{slice_cmp, nat_list_cmp_total}
 use Rattle.fed_event.specs.Fields.{origin_server_ts_of, sender_of}
 use Rattle.fed_room_contract.specs.declared.graph.Stored.{Stored}
-use Rattle.fed_room_contract.specs.Graph.{IsGraph, id_of}
+use Rattle.fed_room_contract.specs.Graph.{IsAuthGraph, id_of}
 use Rattle.fed_auth.specs.Levels.{user_level}
 use Rattle.fed_resolve.specs.Chain.{is_in_chain}
 use Rattle.fed_resolve.specs.Order.{is_among}
@@ -91,7 +91,7 @@ module _ (events : List Stored) where
       (λ p q h g i. line.before_stored events places p q ((there p h).1 i) ((there q g).1 i))
 
   -- the least place that is left may be listed
-  power_goes_on : IsGraph events → (set listed left : List ℕ) → AreListedOrLeft set listed left → All IsPlace left → (p : ℕ) → is_among left p ≡ true
+  power_goes_on : IsAuthGraph events → (set listed left : List ℕ) → AreListedOrLeft set listed left → All IsPlace left → (p : ℕ) → is_among left p ≡ true
       → (r : ℕ) × ((is_among left r ≡ true) × (has_chain_listed events set listed r ≡ true))
   power_goes_on graph set listed left split all p h = (first.0, (first.1.0, each-among (λ other. not (is_in_chain events first.0 other) || is_among listed other) set each))
     where
@@ -112,7 +112,7 @@ module _ (events : List Stored) where
           by true c = done q (split q among) c
           by false c = refl
 
-  pub power-is_order : IsGraph events → (places : List ℕ) → All IsPlace places → IsPowerOrder events places
+  pub power-is_order : IsAuthGraph events → (places : List ℕ) → All IsPlace places → IsPowerOrder events places
   power-is_order graph places all =
       order-is (has_chain_listed events places) (is_before_in_power events) places IsPlace power_weak (power_goes_on graph places) all
 

@@ -3,13 +3,12 @@ use Rattle.std.proofs.Common.{◌≡◌, ◌<◌, ◌≤◌, ℕ, zero, suc, ◌
 use Rattle.std.specs.List.{list_any, list_all, filter_map, cons_option, slice_index_or, slice_get, position_or_len}
 use Rattle.std.proofs.lemmas.Bool.{cases_eq, cases_lt, eq-eqb, eqb-true, or_left, or_right, or_cases, and_parts}
 use Rattle.std.proofs.lemmas.List.{take-append-drop, get_or_past}
-use Rattle.std.proofs.lemmas.List.Folds.{list_all-append}
 use Rattle.std.proofs.lemmas.Option.{slice_get_cases}
 use Rattle.std.proofs.Math.Seq.{drop-cons}
 use Rattle.std.proofs.Math.ListN.{length-take}
-use Rattle.fed_event.specs.Fields.{auth_events_of, prev_events_of}
+use Rattle.fed_event.specs.Fields.{auth_events_of}
 use Rattle.fed_room_contract.specs.declared.graph.Stored.{Stored}
-use Rattle.fed_room_contract.specs.Graph.{IsGraph, has_id, is_stored, links_in, auth_links}
+use Rattle.fed_room_contract.specs.Graph.{IsAuthGraph, has_id, is_stored, links_in, auth_links}
 use Rattle.fed_resolve.specs.Chain.{is_in_chains, auths_at, place_of, IsInChain, is_reached, is_in_chain}
 use Rattle.fed_resolve.specs.Chain.IsInChain.{named, further}
 use Rattle.fed_resolve.specs.Marks.{AreMarks}
@@ -65,7 +64,7 @@ in_front front back (id ∷ ids) q stored is_named = by (in_front front back ids
             omega arith
         or (inr t) = rest parts.1 t
 
-module _ (events : List Stored) (graph : IsGraph events) where
+module _ (events : List Stored) (graph : IsAuthGraph events) where
   -- an auth event stands before the event that names it
   pub auth_below : (p a : ℕ) → is_auth events p a ≡ true → (a < p) × (p < length events)
   auth_below p a h = by (slice_get_cases events p).1
@@ -83,14 +82,11 @@ module _ (events : List Stored) (graph : IsGraph events) where
           split : events ≡ front ++ back
           split = sym (take-append-drop p events) ∙ ap (λ r. front ++ r) (drop-cons events p x within ∙ ap (λ y. y ∷ drop (suc p) events) here)
 
-          ready : (list_all (is_stored front) (prev_events_of x.event.event) ≡ true) × (list_all (is_stored front) (auth_events_of x.event.event) ≡ true)
-          ready = and_parts _ _ (sym (list_all-append (is_stored front) (prev_events_of x.event.event) (auth_events_of x.event.event)) ∙ (graph.each front x (drop (suc p) events) split).ready)
-
           named_here : list_any (λ b. eqb b a) (filter_map (place_of (front ++ back)) (auth_events_of x.event.event)) ≡ true
           named_here = ap (λ es. list_any (λ b. eqb b a) (filter_map (place_of es) (auth_events_of x.event.event))) (sym split) ∙ ap (λ o. list_any (λ b. eqb b a) (links_in (auth_links events) o)) (sym some) ∙ h
 
           below : a < length front
-          below = in_front front back (auth_events_of x.event.event) a ready.1 named_here
+          below = in_front front back (auth_events_of x.event.event) a (graph.each front x (drop (suc p) events) split).auths named_here
 
   -- ---- the relation and the test
 

@@ -3,14 +3,15 @@ use Rattle.std.proofs.Common.{◌≡◌, ◌<◌, ◌≤◌, ℕ, zero, suc, ◌
 use Rattle.std.proofs.lemmas.Bool.{and_parts, lt-ltb, eq-eqb}
 use Rattle.std.proofs.lemmas.List.{take-append-drop}
 use Rattle.std.proofs.lemmas.List.Elements.{All-weaker}
-use Rattle.std.proofs.lemmas.List.Folds.{list_all-append, list_any_at}
+use Rattle.std.proofs.lemmas.List.Folds.{list_any_at}
 use Rattle.std.proofs.lemmas.Option.{slice_get_cases}
 use Rattle.std.proofs.Math.Seq.{drop-cons}
 use Rattle.std.specs.List.{list_any, list_all, filter_map, cons_option, slice_get, slice_index_or, position_or_len}
-use Rattle.fed_event.specs.Fields.{auth_events_of, prev_events_of}
+use Rattle.fed_event.specs.Fields.{auth_events_of}
 use Rattle.fed_room_contract.specs.declared.graph.Stored.{Stored}
-use Rattle.fed_room_contract.specs.Graph.{IsGraph, has_id, is_stored, is_ready, links_in, auth_links}
-use Rattle.fed_room_contract.proofs.Graphs.{ready_stays, graph_front}
+use Rattle.fed_room_contract.specs.Graph.{IsAuthGraph, has_id, is_stored, has_auths, links_in, auth_links}
+use Rattle.fed_room_contract.proofs.Graphs.{auths_stay}
+use Rattle.fed_room_contract.proofs.AuthGraphs.{auth_graph_front}
 use Rattle.fed_resolve.specs.Chain.{auths_at, place_of, IsInChain, is_in_chain}
 use Rattle.fed_resolve.specs.Chain.IsInChain.{named, further}
 use Rattle.fed_resolve.proofs.Agreement.{filter_map-agree}
@@ -57,23 +58,22 @@ place-same events more id h = let found = place_found events more id h in found.
 
 -- ---- one graph
 
-module _ (events : List Stored) (graph : IsGraph events) where
+module _ (events : List Stored) (graph : IsAuthGraph events) where
   -- the auth events of a stored event are stored
   pub auths_stored : (p : ℕ) (x : Stored) → slice_get events p ≡ Some x → list_all (is_stored events) (auth_events_of x.event.event) ≡ true
   auths_stored p x some = by (slice_get_cases events p).1
     where
-      ready_there : (y : Stored) → p < length events → slice_index_or events p y ≡ y → is_ready events y.event.event ≡ true
-      ready_there y within here =
+      auths_there : (y : Stored) → p < length events → slice_index_or events p y ≡ y → has_auths events y.event.event ≡ true
+      auths_there y within here =
           let split : events ≡ take p events ++ y ∷ drop (suc p) events =
           sym (take-append-drop p events) ∙ ap (λ r. take p events ++ r) (drop-cons events p y within ∙ ap (λ z. z ∷ drop (suc p) events) here) in
-          ap (λ es. is_ready es y.event.event) split ∙ ready_stays (take p events) (y ∷ drop (suc p) events) y.event.event (graph.each (take p events) y (drop (suc p) events) split).ready
+          ap (λ es. has_auths es y.event.event) split ∙ auths_stay (take p events) (y ∷ drop (suc p) events) y.event.event (graph.each (take p events) y (drop (suc p) events) split).auths
 
       by : ((y : Stored) × (p < length events) × (slice_get events p ≡ Some y) × (slice_index_or events p y ≡ y)) ⊎ ((length events ≤ p) × (slice_get events p ≡ None))
           → list_all (is_stored events) (auth_events_of x.event.event) ≡ true
       by (inl (y, within, found, here)) =
           let same : y ≡ x = cc in
-          ap (λ z. list_all (is_stored events) (auth_events_of z.event.event)) (sym same)
-          ∙ (and_parts _ _ (sym (list_all-append (is_stored events) (prev_events_of y.event.event) (auth_events_of y.event.event)) ∙ ready_there y within here)).1
+          ap (λ z. list_all (is_stored events) (auth_events_of z.event.event)) (sym same) ∙ auths_there y within here
       by (inr (past, none)) = absurd (cc)
 
   pub auths_below : (p : ℕ) → All (λ a. (a < p) × (p < length events)) (auths_at events p)
@@ -91,9 +91,9 @@ module _ (events : List Stored) (graph : IsGraph events) where
 
 -- ---- more events behind
 
-module _ (events more : List Stored) (graph : IsGraph (events ++ more)) where
-  pub front : IsGraph events
-  front = graph_front events more graph
+module _ (events more : List Stored) (graph : IsAuthGraph (events ++ more)) where
+  pub front : IsAuthGraph events
+  front = auth_graph_front events more graph
 
   places-same : (ids : List (List ℕ)) → list_all (is_stored events) ids ≡ true → filter_map (place_of (events ++ more)) ids ≡ filter_map (place_of events) ids
   places-same [] h = refl

@@ -5,7 +5,7 @@ use Rattle.std.specs.List.{filter_map, cons_option, find, slice_get}
 use Rattle.fed_event.specs.Checked.{CheckedEvent}
 use Rattle.fed_room_contract.specs.declared.graph.Stored.{Stored}
 use Rattle.fed_room_contract.specs.State.{StateKey, StateMap, entry_at, with_entry}
-use Rattle.fed_room_contract.specs.Graph.{IsGraph, has_id, id_of, is_stored, stored_at}
+use Rattle.fed_room_contract.specs.Graph.{IsAuthGraph, has_id, id_of, is_stored, stored_at}
 use Rattle.fed_room_contract.specs.Lawful.{NamesStored}
 use Rattle.fed_room_contract.proofs.Graphs.{stored_at-++}
 use Rattle.fed_room_contract.proofs.Positions.{is_some-find}
@@ -58,7 +58,7 @@ pub named-completed : (events : List Stored) (state : StateMap) (place : ℕ) (s
 named-completed events state place stored named =
     named-keys events (filter_map (slice_get events) (auths_at events place)) (auths_are_stored events (auths_at events place)) (selection_keys (selector_of stored.event.event)) state named
 
-module _ (events more : List Stored) (graph : IsGraph (events ++ more)) where
+module _ (events more : List Stored) (graph : IsAuthGraph (events ++ more)) where
   found-same : (id : List ℕ) → is_stored events id ≡ true → stored_at (events ++ more) id ≡ stored_at events id
   found-same id h = by (stored_at events id) refl
     where

@@ -9,7 +9,7 @@ use Rattle.std.specs.Cmp.{tied_itself}
 use Rattle.std.specs.Ordering.{is_eq, eq_by_cmp}
 use Rattle.fed_event.specs.Tests.{holds}
 use Rattle.fed_room_contract.specs.declared.graph.Stored.{Stored}
-use Rattle.fed_room_contract.specs.Graph.{IsGraph, has_id, is_stored}
+use Rattle.fed_room_contract.specs.Graph.{IsAuthGraph, has_id, is_stored}
 use Rattle.fed_room_contract.specs.State.{StateKey, StateMap, key_cmp}
 use Rattle.fed_room_contract.specs.Lawful.{NamesStored}
 use Rattle.fed_room_contract.proofs.Filled.{first, second, tied, absent}
@@ -46,7 +46,7 @@ entries_stored events state named =
 abbrev Entries : Type 0
 Entries = List (StateKey × List ℕ)
 
-module _ (events : List Stored) (graph : IsGraph events) where
+module _ (events : List Stored) (graph : IsAuthGraph events) where
   held_within : (q : ℕ) (test : ℕ → Bool) → ((p : ℕ) → test p ≡ true → q < length events) → (o : Option ℕ) → holds test o ≡ true → q < length events
   held_within q test within None h = absurd (true≢false (sym h))
   held_within q test within (Some p) h = within p h
@@ -89,7 +89,7 @@ members_within events test = All-filter test (λ p. p < length events) (places_b
 
 -- ---- more events behind
 
-module _ (events more : List Stored) (graph : IsGraph (events ++ more)) where
+module _ (events more : List Stored) (graph : IsAuthGraph (events ++ more)) where
   entry-same : (q : ℕ) (id : List ℕ) → is_stored events id ≡ true → is_entry_at (events ++ more) q id ≡ is_entry_at events q id
   entry-same q id h = ap (holds (λ p. eqb p q)) (place-same events more id h)
 

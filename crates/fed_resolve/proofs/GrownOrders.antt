@@ -8,7 +8,7 @@ use Rattle.std.specs.Cmp.Lexicographic.{slice_cmp}
 use Rattle.fed_event.specs.Tests.{holds}
 use Rattle.fed_event.specs.Fields.{content_of, sender_of, origin_server_ts_of}
 use Rattle.fed_room_contract.specs.declared.graph.Stored.{Stored}
-use Rattle.fed_room_contract.specs.Graph.{IsGraph, id_of}
+use Rattle.fed_room_contract.specs.Graph.{IsAuthGraph, id_of}
 use Rattle.fed_auth.specs.AuthState.{stands_at, is_create}
 use Rattle.fed_auth.specs.Levels.{LevelsGiven, user_level}
 use Rattle.fed_auth.specs.StateView.{creator_in}
@@ -42,7 +42,7 @@ power_by auths auths_too one other =
 abbrev auths_there : List Stored → ℕ → List Stored
 auths_there events p = filter_map (slice_get events) (auths_at events p)
 
-module _ (events more : List Stored) (graph : IsGraph (events ++ more)) where
+module _ (events more : List Stored) (graph : IsAuthGraph (events ++ more)) where
   power-before : (p q : ℕ) → p < length events → q < length events → is_before_in_power (events ++ more) p q ≡ is_before_in_power events p q
   power-before p q within inside =
       (λ i. power.before_stored (events ++ more) p q (slice_get-front events more p within i) (slice_get-front events more q inside i)) ∙ by (slice_get events p) (slice_get events q)

@@ -5,7 +5,7 @@ use Rattle.std.proofs.lemmas.Bool.{cases_eq, eq-eqb, ne_eqb}
 use Rattle.std.proofs.lemmas.Iterator.Adapters.{position_from-zero}
 use Rattle.std.proofs.lemmas.List.Quantifiers.{position-Some}
 use Rattle.fed_room_contract.specs.declared.graph.Stored.{Stored}
-use Rattle.fed_room_contract.specs.Graph.{IsGraph}
+use Rattle.fed_room_contract.specs.Graph.{IsAuthGraph}
 use Rattle.fed_resolve.specs.Mainline.{least_of, least_index, mainline, mainline_from, levels_auth}
 use Rattle.fed_resolve.specs.RankParts.{AreIndices}
 use Rattle.fed_resolve.proofs.Reached.{auth-levels_below}
@@ -94,7 +94,7 @@ module _ (events : List Stored) where
   line-end zero next none = refl
   line-end (suc steps) next none = ap (mainline_from events (suc steps)) none
 
-  module _ (graph : IsGraph events) where
+  module _ (graph : IsAuthGraph events) where
     line-falls : (steps : ℕ) (next : Option ℕ) (bound : ℕ) → IfSome next (λ p. p < bound) → Fall bound (mainline_from events steps next)
     line-falls zero next bound below = tt
     line-falls (suc steps) None bound below = tt

@@ -10,7 +10,7 @@ use Rattle.std.proofs.lemmas.Nat.Bits.{bit_at-zero, bit_at-lt, bit_at_or, bit_at
 use Rattle.std.proofs.lemmas.Option.{slice_get_cases, slice_get_past}
 use Rattle.fed_event.specs.Tests.{holds}
 use Rattle.fed_room_contract.specs.declared.graph.Stored.{Stored}
-use Rattle.fed_room_contract.specs.Graph.{IsGraph}
+use Rattle.fed_room_contract.specs.Graph.{IsAuthGraph}
 use Rattle.fed_resolve.specs.ChainParts.{AreClosedFrom, is_marked, is_auth}
 use Rattle.fed_resolve.specs.Marks.{AreMarks}
 use Rattle.fed_resolve.specs.Order.{is_among}
@@ -147,7 +147,7 @@ masked-marks count bits test before after long masked bit = record {
 
 -- ---- the walk down
 
-module _ (events : List Stored) (graph : IsGraph events) (from p : ℕ) (near : from ≤ suc p) (first before : List ℕ) (long : length before ≡ length events) (within : p < length events) (closed : (bit : ℕ) → AreClosedFrom events from (bit_marks bit first) (bit_marks bit before)) where
+module _ (events : List Stored) (graph : IsAuthGraph events) (from p : ℕ) (near : from ≤ suc p) (first before : List ℕ) (long : length before ≡ length events) (within : p < length events) (closed : (bit : ℕ) → AreClosedFrom events from (bit_marks bit first) (bit_marks bit before)) where
   -- a place whose word has bits
   pub masks-carried : (after : List ℕ) → AreMasked (length events) (is_auth events p) (get_or before p 0) before after → (bit : ℕ) → AreClosedFrom events p (bit_marks bit first) (bit_marks bit after)
   masks-carried after masked bit = by (has_bit bit (get_or before p 0)) refl (masked-marks (length events) (get_or before p 0) (is_auth events p) before after long masked bit)
@@ -247,7 +247,7 @@ module _ {X : Type 0} (events : List Stored) (places : X → List ℕ) (xs : Lis
           ∙ sym (ap (λ t. t && is_auth_of events (group_of (λ x. places x ++ common) xs bit) q) (le-ltb bit (length xs) past))
 
   -- all groups, and the walk
-  pub chain-masks : IsGraph events → (to : ℕ) (first after : List ℕ) → AreFirstMasks events places xs (length xs) first → length after ≡ length events
+  pub chain-masks : IsAuthGraph events → (to : ℕ) (first after : List ℕ) → AreFirstMasks events places xs (length xs) first → length after ≡ length events
       → ((bit : ℕ) → AreClosedFrom events to (bit_marks bit first) (bit_marks bit after)) → AreChainMasks events places xs to after
   chain-masks graph to first after firsts long closed = record {
     long = long;

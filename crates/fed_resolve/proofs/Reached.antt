@@ -5,7 +5,7 @@ use Rattle.std.proofs.lemmas.Bool.{cases_lt, lt-ltb, eq-eqb, eqb-true, or_left, 
 use Rattle.std.proofs.lemmas.List.Quantifiers.{position-Some}
 use Rattle.std.proofs.lemmas.Option.{slice_get-get_or, slice_get_within}
 use Rattle.fed_room_contract.specs.declared.graph.Stored.{Stored}
-use Rattle.fed_room_contract.specs.Graph.{IsGraph}
+use Rattle.fed_room_contract.specs.Graph.{IsAuthGraph}
 use Rattle.fed_resolve.specs.Chain.{auths_at}
 use Rattle.fed_resolve.specs.Mainline.{is_levels_at, levels_auth, mainline_from, mainline, least_of, least_index, position_of}
 use Rattle.fed_resolve.specs.Order.{is_among}
@@ -24,7 +24,7 @@ found_among p (y ∷ xs) x e = by (p y) e (found_among p xs x)
     by true e rest = let same : y ≡ x = cc in or_left (eqb y x) (list_any (λ a. eqb a x) xs) (eq-eqb y x same)
     by false e rest = or_right (eqb y x) (list_any (λ a. eqb a x) xs) (rest e)
 
-module _ (events : List Stored) (graph : IsGraph events) where
+module _ (events : List Stored) (graph : IsAuthGraph events) where
   levels_below : (place levels : ℕ) → levels_auth events place ≡ Some levels → (levels < place) × (place < length events)
   levels_below place levels e = auth_below events graph place levels (found_among (is_levels_at events) (auths_at events place) levels e)
 
@@ -164,7 +164,7 @@ least line (first ∷ places) = by (index_of line first) refl (least_index line 
 
 -- ---- positions
 
-pub position-is : (events : List Stored) (line : List ℕ) (place : ℕ) → IsGraph events → IsPosition events line place (position_of events line place)
+pub position-is : (events : List Stored) (line : List ℕ) (place : ℕ) → IsAuthGraph events → IsPosition events line place (position_of events line place)
 position-is events line place graph = by (position_of events line place) (least line walk)
   where
     walk : List ℕ

@@ -1,6 +1,6 @@
 // Auth chains.
 ghost use Rattle.std.specs.Prelude.{◌≡◌, ◌<◌, ℕ, false, All, IfOk, length};
-ghost use Rattle.fed_room_contract.specs.Graph.{IsGraph};
+ghost use Rattle.fed_room_contract.specs.Graph.{IsAuthGraph};
 ghost use Rattle.fed_resolve.specs.Chain.{is_in_chains, auths_at};
 ghost use Rattle.fed_resolve.specs.Marks.{AreMarks};
 ghost use Rattle.fed_resolve.specs.ChainParts.{AreClosedFrom, is_marked, or_among, or_auths};
@@ -28,7 +28,7 @@ pub fn chains(alloc: Global, graph: &Graph, places: &[usize]) -> Result<Vec<bool
 // Marks, where nothing is marked, what is in the auth chain of some of these events.
 fn mark_chains(graph: &Graph, places: &[usize], marks: &mut [bool])
     requires places { All (λ place. place < length graph.now.stored) places.now }
-    requires graph { IsGraph graph.now.stored }
+    requires graph { IsAuthGraph graph.now.stored }
     requires none { (place : ℕ) → is_marked marks.old place ≡ false }
     requires long { length marks.old ≡ length graph.now.stored }
     ensures { AreMarks (length graph.now.stored) (is_in_chains graph.now.stored places.now) marks.new }
@@ -39,7 +39,7 @@ fn mark_chains(graph: &Graph, places: &[usize], marks: &mut [bool])
 
 // Marks what is in the auth chain of what is marked: an auth event stands before the event that names it.
 fn mark_on(graph: &Graph, marks: &mut [bool])
-    requires graph { IsGraph graph.now.stored }
+    requires graph { IsAuthGraph graph.now.stored }
     requires long { length marks.old ≡ length graph.now.stored }
     ensures { AreClosedFrom graph.now.stored 0 marks.old marks.new }
 {

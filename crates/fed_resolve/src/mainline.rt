@@ -1,6 +1,6 @@
 // Mainline ordering.
 ghost use Rattle.std.specs.Prelude.{◌≡◌, ◌<◌, ℕ, Option, All, IfOk, IfSome, length, map};
-ghost use Rattle.fed_room_contract.specs.Graph.{IsGraph};
+ghost use Rattle.fed_room_contract.specs.Graph.{IsAuthGraph};
 ghost use Rattle.fed_resolve.specs.Mainline.{mainline as mainline_of, position_of, mainline_order as mainline_order_of};
 ghost use Rattle.fed_resolve.specs.OrderParts.{candidate_place};
 ghost use Rattle.fed_resolve.specs.RankParts.{AreIndices, IsMainlineRank, IsMainlineCandidate};
@@ -94,7 +94,7 @@ fn candidates<'a>(
     indices: &[Option<usize>],
     set: &[usize],
 ) -> Result<Vec<Candidate<MainlineRank<'a>>>, NoMemory>
-    requires graph { IsGraph graph.now.stored }
+    requires graph { IsAuthGraph graph.now.stored }
     requires indices { length indices.now ≡ length graph.now.stored }
     requires set { All (λ place. place < length graph.now.stored) set.now }
     ensures places { IfOk result (λ candidates. map candidate_place candidates.items ≡ set.now) }
@@ -116,7 +116,7 @@ fn candidates<'a>(
 
 // What the order compares of the event at a place.
 fn rank<'a>(graph: &'a Graph, indices: &[Option<usize>], place: usize) -> MainlineRank<'a>
-    requires graph { IsGraph graph.now.stored }
+    requires graph { IsAuthGraph graph.now.stored }
     requires indices { length indices.now ≡ length graph.now.stored }
     requires place { place < length graph.now.stored }
     ensures { (levels : Option ℕ) → AreIndices (length graph.now.stored) (mainline_of graph.now.stored levels) indices.now
@@ -133,7 +133,7 @@ fn rank<'a>(graph: &'a Graph, indices: &[Option<usize>], place: usize) -> Mainli
 // The position of the event at a place: the index of the first mainline event that is reached from it through power levels events. From
 // there on the walk follows the mainline, along which indices rise, so that it is the least.
 fn position(graph: &Graph, indices: &[Option<usize>], place: usize) -> Option<usize>
-    requires graph { IsGraph graph.now.stored }
+    requires graph { IsAuthGraph graph.now.stored }
     requires indices { length indices.now ≡ length graph.now.stored }
     ensures { (levels : Option ℕ) → AreIndices (length graph.now.stored) (mainline_of graph.now.stored levels) indices.now
         → result ≡ position_of graph.now.stored (mainline_of graph.now.stored levels) place }

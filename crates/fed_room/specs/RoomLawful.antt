@@ -12,6 +12,7 @@ use Rattle.fed_room_contract.specs.Graph.{IsGraph, id_of, has_id, stored_at, is_
 use Rattle.fed_room_contract.specs.Lawful.{NamesStored, AreLawful}
 use Rattle.fed_room_contract.specs.Room.{extremities_of}
 use Rattle.fed_room_contract.proofs.Graphs.{graph_front, graph_last, stored_at-++, stored_at-last}
+use Rattle.fed_room_contract.proofs.AuthGraphs.{auth_graph}
 use Rattle.fed_room_contract.proofs.Rooms.{stored_is_ready}
 use Rattle.fed_auth.specs.AuthState.{is_rejected, kind_in, state_key_in, with_id_at, with_stored}
 use Rattle.fed_auth.proofs.AuthStates.{itself}
@@ -105,7 +106,7 @@ module _ (events : List Stored) (graph : IsGraph events) where
   within-named : (steps : ℕ) (id : List ℕ) → NamesStored events (after_within events steps id)
   within-named zero id = empty-named events
   within-named (suc steps) id =
-      by (stored_at events id) refl (λ event. names_stored events _ graph (all_mapped (NamesStored events) (after_within events steps) (within-named steps) (prev_events_of event)))
+      by (stored_at events id) refl (λ event. names_stored events _ (auth_graph events graph) (all_mapped (NamesStored events) (after_within events steps) (within-named steps) (prev_events_of event)))
     where
       before : Data → StateMap
       before event = resolved_of events (map (after_within events steps) (prev_events_of event))
@@ -151,7 +152,7 @@ module _ (events more : List Stored) (graph : IsGraph (events ++ more)) where
       → (ids : List (List ℕ)) → list_all (is_stored events) ids ≡ true → resolved_of all (map (after_within all steps) ids) ≡ resolved_of events (map (after_within events steps) ids)
   resolved-more steps same ids stored =
       ap (resolved_of all) (map_alike (after_within all steps) (after_within events steps) (is_stored events) same ids stored)
-      ∙ later_events events more (map (after_within events steps) ids) graph (all_mapped (NamesStored events) (after_within events steps) (within-named events first steps) ids)
+      ∙ later_events events more (map (after_within events steps) ids) (auth_graph (events ++ more) graph) (all_mapped (NamesStored events) (after_within events steps) (within-named events first steps) ids)
 
   within-more : (steps : ℕ) (id : List ℕ) → is_stored events id ≡ true → after_within all steps id ≡ after_within events steps id
   within-more zero id is = refl
@@ -177,12 +178,12 @@ module _ (events more : List Stored) (graph : IsGraph (events ++ more)) where
   unfolding resolved_after state_after
   resolved_after-more ids stored =
       ap (resolved_of all) (map_alike (state_after all) (state_after events) (is_stored events) after-more ids stored)
-      ∙ later_events events more (map (state_after events) ids) graph (all_mapped (NamesStored events) (state_after events) (within-named events first (length events)) ids)
+      ∙ later_events events more (map (state_after events) ids) (auth_graph (events ++ more) graph) (all_mapped (NamesStored events) (state_after events) (within-named events first (length events)) ids)
 
 pub resolved-named : (events : List Stored) (ids : List (List ℕ)) → IsGraph events → NamesStored events (resolved_after events ids)
 unfolding resolved_after state_after
 resolved-named events ids graph =
-    names_stored events _ graph (all_mapped (NamesStored events) (state_after events) (within-named events graph (length events)) ids)
+    names_stored events _ (auth_graph events graph) (all_mapped (NamesStored events) (state_after events) (within-named events graph (length events)) ids)
 
 -- ---- the state after one event more
 

@@ -250,9 +250,6 @@ impl RoomEngine for Room {
         let (verdict, after) = self.decided(alloc, &waiting)?;
         after.keep(alloc, event, &mut self.states, &mut self.store)?;
         self.store.store_waiting(place, verdict);
-        // The graph tells that what it stores now is one, which the proof needs of the states that are kept beside it.
-        let stored = self.store.graph().events();
-        prove!(!stored.is_empty());
         self.states.push_next();
         Ok(Some((id, Receipt::Stored(verdict))))
     }

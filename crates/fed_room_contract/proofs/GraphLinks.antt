@@ -1,4 +1,4 @@
--- The places of the events that stored events name, as a graph grows.
+-- The places of the auth events of stored events, as a graph grows.
 use Rattle.std.proofs.Common.{◌≡◌, ◌<◌, ◌≤◌, ℕ, suc, List, [], ◌∷◌, ◌++◌, append_assoc, Bool, true, false, true≢false, not, ◌||◌, ◌+◌, cond, nat_lt, All, Option, None, Some, is_some, length, map, take, drop, get_or, refl, sym, ap, subst, ◌∙◌, ◌⊎◌, inl, inr, arith}
 use Rattle.std.specs.List.{position, position_or_len, list_any, list_all, filter_map, cons_option, slice_get, AllByRecursion}
 use Rattle.std.proofs.lemmas.Bool.{and_parts, lt-ltb, false_from_ne_true}
@@ -6,16 +6,16 @@ use Rattle.std.proofs.lemmas.List.{get_or-map, get_or_past, get_or-take, length-
 use Rattle.std.proofs.lemmas.List.Sums.{position_or_len_is}
 use Rattle.std.proofs.lemmas.Slice.Eq.{bytes_eq-Decides}
 use Rattle.std.proofs.lemmas.List.Elements.{All-from_recursion}
-use Rattle.std.proofs.lemmas.List.Folds.{list_all-append, list_any_at}
+use Rattle.std.proofs.lemmas.List.Folds.{list_any_at}
 use Rattle.std.proofs.lemmas.Option.{slice_get_cases}
 use Rattle.std.proofs.Math.ListN.{length-take}
 use Rattle.std.proofs.Math.Seq.{drop-cons}
-use Rattle.fed_event.specs.Fields.{auth_events_of, prev_events_of}
+use Rattle.fed_event.specs.Fields.{auth_events_of}
 use Rattle.fed_room_contract.specs.declared.graph.Stored.{Stored}
 use Rattle.fed_room_contract.specs.Places.{PlaceMap, place_at}
-use Rattle.fed_room_contract.specs.Graph.{IsGraph, IsNext, has_id, id_of, is_stored, is_ready, places_of, links_in, auth_links, prev_links}
+use Rattle.fed_room_contract.specs.Graph.{IsAuthGraph, IsAuthNext, has_id, id_of, is_stored, has_auths, places_of, links_in, auth_links}
 use Rattle.fed_room_contract.proofs.Filled.{or}
-use Rattle.fed_room_contract.proofs.Graphs.{ready_stays}
+use Rattle.fed_room_contract.proofs.Graphs.{auths_stay}
 use Rattle.fed_room_contract.proofs.Positions.{is_some-position, position-push}
 
 -- ---- one more event
@@ -63,101 +63,66 @@ in_front front back (id ∷ ids) h =
     placed (nat_lt (position_or_len (has_id id) (front ++ back)) (length (front ++ back))) (position_or_len (has_id id) (front ++ back)) (length front) (places_of (front ++ back) ids)
     (first_in_front (has_id id) front back parts.0) (in_front front back ids parts.1)
 
--- ---- what stored events name
+-- ---- the auth events of stored events
 
-module _ (ids_of : Stored → List (List ℕ)) (ready : (before : List Stored) (s : Stored) → is_ready before s.event.event ≡ true → list_all (is_stored before) (ids_of s) ≡ true) where
-  abbrev links : List Stored → Stored → List ℕ
-  links events s = places_of events (ids_of s)
+all_stored : (whole before rest : List Stored) → IsAuthGraph whole → whole ≡ before ++ rest → AllByRecursion (λ s. list_all (is_stored whole) (auth_events_of s.event.event) ≡ true) rest
+all_stored whole before [] graph e = tt
+all_stored whole before (s ∷ rest) graph e = (
+  ap (λ es. has_auths es s.event.event) e ∙ auths_stay before (s ∷ rest) s.event.event (graph.each before s rest e).auths,
+  all_stored whole (before ++ s ∷ []) rest graph (e ∙ sym (append_assoc before (s ∷ []) rest)),
+)
 
-  all_ready : (whole before rest : List Stored) → IsGraph whole → whole ≡ before ++ rest → AllByRecursion (λ s. list_all (is_stored whole) (ids_of s) ≡ true) rest
-  all_ready whole before [] graph e = tt
-  all_ready whole before (s ∷ rest) graph e = (
-    ready whole s (ap (λ es. is_ready es s.event.event) e ∙ ready_stays before (s ∷ rest) s.event.event (graph.each before s rest e).ready),
-    all_ready whole (before ++ s ∷ []) rest graph (e ∙ sym (append_assoc before (s ∷ []) rest)),
-  )
-
-  links-more : (xs : List Stored) (last : Stored) (places : PlaceMap) → IsGraph xs → IsNext xs last → ((id : List ℕ) → place_at places id ≡ position (has_id id) xs)
-      → map (links xs) xs ++ filter_map (place_at places) (ids_of last) ∷ [] ≡ map (links (xs ++ last ∷ [])) (xs ++ last ∷ [])
-  links-more xs last places graph next entered =
-      (λ i. map (links xs) xs ++ filter_map (λ id. entered id i) (ids_of last) ∷ [])
-      ∙ (λ i. sym (map-agree (links (xs ++ last ∷ [])) (links xs) xs
-      (all-more (λ s. list_all (is_stored xs) (ids_of s) ≡ true) (λ s. links (xs ++ last ∷ []) s ≡ links xs s) (λ s h. same_places xs last (ids_of s) h) xs (all_ready xs [] xs graph refl))) i
-      ++ sym (same_places xs last (ids_of last) (ready xs last next.ready)) i ∷ [])
-      ∙ sym (map-append (links (xs ++ last ∷ [])) xs (last ∷ []))
-
-  -- the list of the event at a place
-  links-at : (xs : List Stored) (place : ℕ) → get_or (map (links xs) xs) place [] ≡ links_in (links xs) (slice_get xs place)
-  links-at xs place = by (slice_get_cases xs place).1
-    where
-      by : ((x : Stored) × (place < length xs) × (slice_get xs place ≡ Some x) × (get_or xs place x ≡ x)) ⊎ ((length xs ≤ place) × (slice_get xs place ≡ None)) → get_or (map (links xs) xs) place [] ≡ links_in (links xs) (slice_get xs place)
-      by (inl (x, inside, some, here)) = get_or-map (links xs) xs place x [] inside ∙ ap (links xs) here ∙ sym (ap (links_in (links xs)) some)
-      by (inr (past, none)) = let long = length-map xs (links xs) in get_or_past (map (links xs) xs) place [] (omega arith) ∙ sym (ap (links_in (links xs)) none)
-
-  before-all : (xs : List Stored) (place : ℕ) → IsGraph xs → AllByRecursion (λ a. a < place) (links_in (links xs) (slice_get xs place)) × AllByRecursion (λ a. a < length xs) (links_in (links xs) (slice_get xs place))
-  before-all xs place graph = by (slice_get_cases xs place).1
-    where
-      by : ((x : Stored) × (place < length xs) × (slice_get xs place ≡ Some x) × (get_or xs place x ≡ x)) ⊎ ((length xs ≤ place) × (slice_get xs place ≡ None))
-          → AllByRecursion (λ a. a < place) (links_in (links xs) (slice_get xs place)) × AllByRecursion (λ a. a < length xs) (links_in (links xs) (slice_get xs place))
-      by (inr (past, none)) =
-          (subst (λ o. AllByRecursion (λ a. a < place) (links_in (links xs) o)) (sym none) tt, subst (λ o. AllByRecursion (λ a. a < length xs) (links_in (links xs) o)) (sym none) tt)
-      by (inl (x, inside, some, here)) = (
-        subst (λ o. AllByRecursion (λ a. a < place) (links_in (links xs) o)) (sym some) all,
-        subst (λ o. AllByRecursion (λ a. a < length xs) (links_in (links xs) o)) (sym some) (all-more (λ a. a < place) (λ a. a < length xs) (λ a h. omega arith) (links xs x) all),
-      )
-        where
-          split : xs ≡ take place xs ++ x ∷ drop (suc place) xs
-          split = sym (take-append-drop place xs) ∙ ap (λ r. take place xs ++ r) (drop-cons xs place x inside ∙ ap (λ y. y ∷ drop (suc place) xs) here)
-
-          long : length (take place xs) ≡ place
-          long = omega (arith, length-take place xs)
-
-          all : AllByRecursion (λ a. a < place) (links xs x)
-          all =
-              subst (λ (n : ℕ). AllByRecursion (λ a. a < n) (links xs x)) long
-              (subst (λ (es : List Stored). AllByRecursion (λ a. a < length (take place xs)) (places_of es (ids_of x))) (sym split)
-              (in_front (take place xs) (x ∷ drop (suc place) xs) (ids_of x) (ready (take place xs) x (graph.each (take place xs) x (drop (suc place) xs) split).ready)))
-
-  links-before : (xs : List Stored) (place : ℕ) → IsGraph xs → All (λ a. a < place) (links_in (links xs) (slice_get xs place))
-  links-before xs place graph = All-from_recursion (λ a. a < place) (links_in (links xs) (slice_get xs place)) (before-all xs place graph).0
-
-  links-within : (xs : List Stored) (place : ℕ) → IsGraph xs → All (λ a. a < length xs) (links_in (links xs) (slice_get xs place))
-  links-within xs place graph = All-from_recursion (λ a. a < length xs) (links_in (links xs) (slice_get xs place)) (before-all xs place graph).1
-
--- ---- auth events and prev events
-
-both : (before : List Stored) (s : Stored) → is_ready before s.event.event ≡ true → (list_all (is_stored before) (prev_events_of s.event.event) ≡ true) × (list_all (is_stored before) (auth_events_of s.event.event) ≡ true)
-both before s h = and_parts _ _ (sym (list_all-append (is_stored before) (prev_events_of s.event.event) (auth_events_of s.event.event)) ∙ h)
-
-pub auths-more : (xs : List Stored) (last : Stored) (places : PlaceMap) → IsGraph xs → IsNext xs last → ((id : List ℕ) → place_at places id ≡ position (has_id id) xs)
+pub auths-more : (xs : List Stored) (last : Stored) (places : PlaceMap) → IsAuthGraph xs → IsAuthNext xs last → ((id : List ℕ) → place_at places id ≡ position (has_id id) xs)
     → map (auth_links xs) xs ++ filter_map (place_at places) (auth_events_of last.event.event) ∷ [] ≡ map (auth_links (xs ++ last ∷ [])) (xs ++ last ∷ [])
-auths-more = links-more (λ s. auth_events_of s.event.event) (λ before s h. (both before s h).1)
+auths-more xs last places graph next entered =
+    (λ i. map (auth_links xs) xs ++ filter_map (λ id. entered id i) (auth_events_of last.event.event) ∷ [])
+    ∙ (λ i. sym (map-agree (auth_links (xs ++ last ∷ [])) (auth_links xs) xs
+    (all-more (λ s. list_all (is_stored xs) (auth_events_of s.event.event) ≡ true) (λ s. auth_links (xs ++ last ∷ []) s ≡ auth_links xs s) (λ s h. same_places xs last (auth_events_of s.event.event) h) xs (all_stored xs [] xs graph refl))) i
+    ++ sym (same_places xs last (auth_events_of last.event.event) next.auths) i ∷ [])
+    ∙ sym (map-append (auth_links (xs ++ last ∷ [])) xs (last ∷ []))
 
-pub prevs-more : (xs : List Stored) (last : Stored) (places : PlaceMap) → IsGraph xs → IsNext xs last → ((id : List ℕ) → place_at places id ≡ position (has_id id) xs)
-    → map (prev_links xs) xs ++ filter_map (place_at places) (prev_events_of last.event.event) ∷ [] ≡ map (prev_links (xs ++ last ∷ [])) (xs ++ last ∷ [])
-prevs-more = links-more (λ s. prev_events_of s.event.event) (λ before s h. (both before s h).0)
-
+-- the list of the event at a place
 pub auths-at : (xs : List Stored) (place : ℕ) → get_or (map (auth_links xs) xs) place [] ≡ links_in (auth_links xs) (slice_get xs place)
-auths-at = links-at (λ s. auth_events_of s.event.event) (λ before s h. (both before s h).1)
+auths-at xs place = by (slice_get_cases xs place).1
+  where
+    by : ((x : Stored) × (place < length xs) × (slice_get xs place ≡ Some x) × (get_or xs place x ≡ x)) ⊎ ((length xs ≤ place) × (slice_get xs place ≡ None)) → get_or (map (auth_links xs) xs) place [] ≡ links_in (auth_links xs) (slice_get xs place)
+    by (inl (x, inside, some, here)) = get_or-map (auth_links xs) xs place x [] inside ∙ ap (auth_links xs) here ∙ sym (ap (links_in (auth_links xs)) some)
+    by (inr (past, none)) = let long = length-map xs (auth_links xs) in get_or_past (map (auth_links xs) xs) place [] (omega arith) ∙ sym (ap (links_in (auth_links xs)) none)
 
-pub prevs-at : (xs : List Stored) (place : ℕ) → get_or (map (prev_links xs) xs) place [] ≡ links_in (prev_links xs) (slice_get xs place)
-prevs-at = links-at (λ s. prev_events_of s.event.event) (λ before s h. (both before s h).0)
+before-all : (xs : List Stored) (place : ℕ) → IsAuthGraph xs → AllByRecursion (λ a. a < place) (links_in (auth_links xs) (slice_get xs place)) × AllByRecursion (λ a. a < length xs) (links_in (auth_links xs) (slice_get xs place))
+before-all xs place graph = by (slice_get_cases xs place).1
+  where
+    by : ((x : Stored) × (place < length xs) × (slice_get xs place ≡ Some x) × (get_or xs place x ≡ x)) ⊎ ((length xs ≤ place) × (slice_get xs place ≡ None))
+        → AllByRecursion (λ a. a < place) (links_in (auth_links xs) (slice_get xs place)) × AllByRecursion (λ a. a < length xs) (links_in (auth_links xs) (slice_get xs place))
+    by (inr (past, none)) =
+        (subst (λ o. AllByRecursion (λ a. a < place) (links_in (auth_links xs) o)) (sym none) tt, subst (λ o. AllByRecursion (λ a. a < length xs) (links_in (auth_links xs) o)) (sym none) tt)
+    by (inl (x, inside, some, here)) = (
+      subst (λ o. AllByRecursion (λ a. a < place) (links_in (auth_links xs) o)) (sym some) all,
+      subst (λ o. AllByRecursion (λ a. a < length xs) (links_in (auth_links xs) o)) (sym some) (all-more (λ a. a < place) (λ a. a < length xs) (λ a h. omega arith) (auth_links xs x) all),
+    )
+      where
+        split : xs ≡ take place xs ++ x ∷ drop (suc place) xs
+        split = sym (take-append-drop place xs) ∙ ap (λ r. take place xs ++ r) (drop-cons xs place x inside ∙ ap (λ y. y ∷ drop (suc place) xs) here)
 
-pub auths-before : (xs : List Stored) (place : ℕ) → IsGraph xs → All (λ a. a < place) (links_in (auth_links xs) (slice_get xs place))
-auths-before = links-before (λ s. auth_events_of s.event.event) (λ before s h. (both before s h).1)
+        long : length (take place xs) ≡ place
+        long = omega (arith, length-take place xs)
 
-pub prevs-before : (xs : List Stored) (place : ℕ) → IsGraph xs → All (λ a. a < place) (links_in (prev_links xs) (slice_get xs place))
-prevs-before = links-before (λ s. prev_events_of s.event.event) (λ before s h. (both before s h).0)
+        all : AllByRecursion (λ a. a < place) (auth_links xs x)
+        all =
+            subst (λ (n : ℕ). AllByRecursion (λ a. a < n) (auth_links xs x)) long
+            (subst (λ (es : List Stored). AllByRecursion (λ a. a < length (take place xs)) (places_of es (auth_events_of x.event.event))) (sym split)
+            (in_front (take place xs) (x ∷ drop (suc place) xs) (auth_events_of x.event.event) (graph.each (take place xs) x (drop (suc place) xs) split).auths))
 
-pub auths-within : (xs : List Stored) (place : ℕ) → IsGraph xs → All (λ a. a < length xs) (links_in (auth_links xs) (slice_get xs place))
-auths-within = links-within (λ s. auth_events_of s.event.event) (λ before s h. (both before s h).1)
+pub auths-before : (xs : List Stored) (place : ℕ) → IsAuthGraph xs → All (λ a. a < place) (links_in (auth_links xs) (slice_get xs place))
+auths-before xs place graph = All-from_recursion (λ a. a < place) (links_in (auth_links xs) (slice_get xs place)) (before-all xs place graph).0
 
-pub prevs-within : (xs : List Stored) (place : ℕ) → IsGraph xs → All (λ a. a < length xs) (links_in (prev_links xs) (slice_get xs place))
-prevs-within = links-within (λ s. prev_events_of s.event.event) (λ before s h. (both before s h).0)
+pub auths-within : (xs : List Stored) (place : ℕ) → IsAuthGraph xs → All (λ a. a < length xs) (links_in (auth_links xs) (slice_get xs place))
+auths-within xs place graph = All-from_recursion (λ a. a < length xs) (links_in (auth_links xs) (slice_get xs place)) (before-all xs place graph).1
 
 -- ---- an event at a place
 
 -- the event that stands at a place is the first of its id
-pub place_known : (xs : List Stored) (place : ℕ) (s : Stored) (id : List ℕ) → IsGraph xs → slice_get xs place ≡ Some s → has_id id s ≡ true → position (has_id id) xs ≡ Some place
+pub place_known : (xs : List Stored) (place : ℕ) (s : Stored) (id : List ℕ) → IsAuthGraph xs → slice_get xs place ≡ Some s → has_id id s ≡ true → position (has_id id) xs ≡ Some place
 place_known xs place s id graph there has = by (slice_get_cases xs place).1
   where
     by : ((x : Stored) × (place < length xs) × (slice_get xs place ≡ Some x) × (get_or xs place x ≡ x)) ⊎ ((length xs ≤ place) × (slice_get xs place ≡ None)) → position (has_id id) xs ≡ Some place

@@ -6,6 +6,7 @@ pub mod KeptSteps
 pub mod Heads
 pub mod Positions
 pub mod Graphs
+pub mod AuthGraphs
 pub mod PlaceMaps
 pub mod Rooms
 pub mod Apart

@@ -1,5 +1,5 @@
--- The events that a room has stored, each with its verdict (Matrix, Server-Server API, "PDUs": events form a graph by the events that they
--- name), found by their ids.
+-- Events that are stored, each with its verdict (Matrix, Server-Server API, "PDUs": events form a graph by the events that they name), found
+-- by their ids. By auth events alone they form a graph too (room version 2, "State resolution", auth chains), of which a room's graph is one.
 use Rattle.std.specs.Prelude.{◌≡◌, ℕ, List, [], ◌∷◌, ◌++◌, Bool, true, false, Option, None, Some, find, position, slice_get}
 use Rattle.std.specs.List.{list_any, list_all, filter_map}
 use Rattle.std.specs.Str.{bytes_eq}
@@ -24,12 +24,9 @@ is_stored events id = list_any (has_id id) events
 abbrev pub places_of : List Stored → List (List ℕ) → List ℕ
 places_of events ids = filter_map (λ id. position (has_id id) events) ids
 
--- where the auth events of an event are stored, and its prev events, in the order in which it names them
+-- where the auth events of an event are stored, in the order in which it names them
 abbrev pub auth_links : List Stored → Stored → List ℕ
 auth_links events stored = places_of events (auth_events_of stored.event.event)
-
-abbrev pub prev_links : List Stored → Stored → List ℕ
-prev_links events stored = places_of events (prev_events_of stored.event.event)
 
 -- the same of the event at a place; nothing where there is none
 abbrev pub links_in : (Stored → List ℕ) → Option Stored → List ℕ
@@ -39,9 +36,6 @@ links_in links (Some stored) = links stored
 abbrev pub auth_places_at : List Stored → ℕ → List ℕ
 auth_places_at events place = links_in (auth_links events) (slice_get events place)
 
-abbrev pub prev_places_at : List Stored → ℕ → List ℕ
-prev_places_at events place = links_in (prev_links events) (slice_get events place)
-
 -- the events that this one names
 abbrev pub named_by : Data → List (List ℕ)
 named_by event = prev_events_of event ++ auth_events_of event
@@ -49,6 +43,10 @@ named_by event = prev_events_of event ++ auth_events_of event
 -- all that it names is stored
 abbrev pub is_ready : List Stored → Data → Bool
 is_ready events event = list_all (is_stored events) (named_by event)
+
+-- all its auth events are stored
+abbrev pub has_auths : List Stored → Data → Bool
+has_auths events event = list_all (is_stored events) (auth_events_of event)
 
 -- an event that comes next: it is another one than those before it, and names only these
 pub record IsNext (before : List Stored) (next : Stored) : Type 0 where
@@ -58,3 +56,12 @@ pub record IsNext (before : List Stored) (next : Stored) : Type 0 where
 -- each event comes next after those before it
 pub record IsGraph (events : List Stored) : Type 0 where
   pub each : (before : List Stored) (next : Stored) (after : List Stored) → events ≡ before ++ next ∷ after → IsNext before next
+
+-- the same where auth events alone count: it is another one, and its auth events are among them
+pub record IsAuthNext (before : List Stored) (next : Stored) : Type 0 where
+  pub new : is_stored before (id_of next) ≡ false
+  pub auths : has_auths before next.event.event ≡ true
+
+-- each event comes next after those before it, as far as auth events count
+pub record IsAuthGraph (events : List Stored) : Type 0 where
+  pub each : (before : List Stored) (next : Stored) (after : List Stored) → events ≡ before ++ next ∷ after → IsAuthNext before next

@@ -1,23 +1,23 @@
-// The events that a room has stored.
+// Events that are stored, each behind its auth events.
 ghost use Rattle.std.specs.Prelude.{◌≡◌, ◌==◌, ◌++◌, ◌∷◌, [], Some, None, true, false, map, length, position, slice_get, option_map, All, IfSome, OnOk, OnErr, ◌<◌};
 
-use crate::links::{Links, add_named};
+use crate::links::{Links, add_auths};
 use crate::places::Places;
 use crate::verdict::Verdict;
-use fed_event::{Checked, EventId, EventIds, MAX_AUTH_EVENTS, MAX_PREV_EVENTS, Pdu};
+use fed_event::{Checked, EventId, EventIds, MAX_AUTH_EVENTS, Pdu};
 use fed_json::NoMemory;
 use std::alloc::Global;
 use std::marker::Model;
 
-/// An event that a room has stored, and what the room made of it.
+/// An event that is stored, and what a room made of it.
 #[derive(Drop)]
 pub struct Stored {
     pub event: Checked,
     pub verdict: Verdict,
 }
 
-/// The events that a room has stored, in the order of storing: different events, each of which names only earlier ones as prev events
-/// and auth events (Server-Server API, "PDUs").
+/// Events in the order of storing: different events, each of which names only earlier ones as auth events (Server-Server API, "PDUs"). Those
+/// that a room has stored stand behind their prev events too, which an `EventStore` sees to; state resolution asks for auth events alone.
 ///
 /// Contracts see it as the list of these events, and beside it the id of the event for which `reserve` has made room.
 #[derive(Drop)]
@@ -25,7 +25,6 @@ pub struct Graph {
     events: Vec<Stored>,
     places: Places,
     auths: Links,
-    prevs: Links,
     reserved: Option<EventId>,
 }
 
@@ -46,7 +45,7 @@ impl Graph {
     ghost use Rattle.fed_event.specs.EventId.{event_id_of};
     ghost use Rattle.fed_event.specs.EventIds.{ids_left};
     ghost use Rattle.std.specs.List.{list_all};
-    ghost use Rattle.fed_room_contract.specs.Graph.{IsGraph, has_id, stored_at, is_stored, auth_places_at, prev_places_at, is_ready as is_ready_in};
+    ghost use Rattle.fed_room_contract.specs.Graph.{IsAuthGraph, has_id, stored_at, is_stored, auth_places_at, has_auths as has_auths_in, is_ready as is_ready_in};
     ghost use Rattle.fed_room_contract.specs.GraphState.{with_event, with_room};
 
     /// The graph in which nothing is stored.
@@ -57,7 +56,6 @@ impl Graph {
             events: Vec::new(alloc),
             places: Places::new(alloc),
             auths: Links::new(alloc),
-            prevs: Links::new(alloc),
             reserved: None,
         }
     }
@@ -65,7 +63,7 @@ impl Graph {
     /// The events, in the order of storing.
     pub fn events(&self) -> &[Stored]
         ensures stored { result.now ≡ self.now.stored }
-        ensures graph { IsGraph self.now.stored }
+        ensures graph { IsAuthGraph self.now.stored }
     {
         self.events.as_slice()
     }
@@ -119,16 +117,6 @@ impl Graph {
         self.auths.get(place)
     }
 
-    /// The places of the prev events of the event at a place, in the order in which it names them: they were found once, when it was
-    /// stored. There are none where no event is stored there.
-    pub fn prev_places(&self, place: usize) -> &[usize]
-        ensures places { result.now ≡ prev_places_at self.now.stored place }
-        ensures before { All (λ prev. prev < place) result.now }
-        ensures within { All (λ prev. prev < length self.now.stored) result.now }
-    {
-        self.prevs.get(place)
-    }
-
     /// The event of this id.
     pub fn get(&self, id: &str) -> Option<&Stored>
         ensures { option_map (λ s. s.now) result ≡ stored_at self.now.stored id.now }
@@ -147,17 +135,24 @@ impl Graph {
     pub fn is_ready(&self, event: &Pdu) -> bool
         ensures { result ≡ is_ready_in self.now.stored event.now }
     {
-        self.contains_all(event.prev_events()) && self.contains_all(event.auth_events())
+        self.contains_all(event.prev_events()) && self.has_auths(event)
     }
 
-    /// Stores an event that is ready.
+    /// Whether all auth events of an event are stored.
+    pub fn has_auths(&self, event: &Pdu) -> bool
+        ensures { result ≡ has_auths_in self.now.stored event.now }
+    {
+        self.contains_all(event.auth_events())
+    }
+
+    /// Stores an event whose auth events are stored.
     ///
     /// # Errors
     ///
     /// `NoMemory`; then the graph is as it was, and the event is lost.
     pub fn push(&mut self, alloc: Global, event: Checked, verdict: Verdict) -> Result<(), NoMemory>
         requires new { is_stored self.old.stored (event_id_of event.event) ≡ false }
-        requires ready { is_ready_in self.old.stored event.event ≡ true }
+        requires auths { has_auths_in self.old.stored event.event ≡ true }
         ensures ok { OnOk result (self.new ≡ with_event self.old (record { event = event; verdict = verdict })) }
         ensures err { OnErr result (self.new ≡ self.old) }
     {
@@ -177,28 +172,22 @@ impl Graph {
     {
         self.events.reserve(1)?;
         self.auths.reserve(MAX_AUTH_EVENTS)?;
-        self.prevs.reserve(MAX_PREV_EVENTS)?;
         let reserved = id.copy(alloc)?;
         self.places.make_room(alloc, id, self.reserved.as_ref())?;
         self.reserved = Some(reserved);
         Ok(())
     }
 
-    /// Stores an event that is ready and that room was made for, and gives its id. It takes no memory.
+    /// Stores an event whose auth events are stored and that room was made for, and gives its id. It takes no memory.
     pub fn push_reserved(&mut self, event: Checked, verdict: Verdict) -> EventId
         requires reserved { self.old.reserved ≡ Some (event_id_of event.event) }
         requires new { is_stored self.old.stored (event_id_of event.event) ≡ false }
-        requires ready { is_ready_in self.old.stored event.event ≡ true }
+        requires auths { has_auths_in self.old.stored event.event ≡ true }
         ensures id { result ≡ event_id_of event.event }
         ensures stored { self.new ≡ with_event self.old (record { event = event; verdict = verdict }) }
     {
         let place = self.events.len();
-        add_named(
-            &mut self.auths,
-            &mut self.prevs,
-            &self.places,
-            event.event(),
-        );
+        add_auths(&mut self.auths, &self.places, event.event());
         self.places.enter(event.event().id().as_str(), place);
         self.events.push(Stored { event, verdict }).unwrap();
         match self.reserved.take() {

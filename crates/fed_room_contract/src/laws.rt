@@ -7,7 +7,7 @@ ghost use Rattle.fed_room_contract.specs.declared.graph.Stored.{Stored};
 ghost use Rattle.fed_room_contract.specs.declared.input.Input.{Input};
 ghost use Rattle.fed_room_contract.specs.declared.input.Input.TheVariants.{Receive, Advance, Commit};
 ghost use Rattle.fed_room_contract.specs.State.{StateMap, StateKey, entry_at, with_entry};
-ghost use Rattle.fed_room_contract.specs.Graph.{IsGraph, IsNext, id_of, has_id, stored_at, is_stored, is_ready};
+ghost use Rattle.fed_room_contract.specs.Graph.{IsGraph, IsNext, IsAuthGraph, IsAuthNext, id_of, has_id, stored_at, is_stored, is_ready};
 ghost use Rattle.fed_room_contract.specs.Lawful.{AreLawful};
 ghost use Rattle.fed_room_contract.specs.Room.{Rules, RoomState, empty_room, receipt_of, after_receipt, advanced, committed};
 ghost use Rattle.fed_room_contract.specs.Runs.{after_input, room_after, IsRoom, MayBeGiven, AllMayBeGiven};
@@ -40,6 +40,15 @@ pub fn graphs_grow()
     ensures next { (events : List Stored) (next : Stored) → IsGraph events → IsNext events next → IsGraph (events ++ next ∷ []) }
     ensures last { (events : List Stored) (next : Stored) → IsGraph (events ++ next ∷ []) → IsNext events next }
     ensures front { (events more : List Stored) → IsGraph (events ++ more) → IsGraph events }
+{}
+
+/// A graph is one by auth events too; and one by auth events grows by an event whose auth events are there, and by no other.
+pub fn auth_graphs_grow()
+    ensures graph { (events : List Stored) → IsGraph events → IsAuthGraph events }
+    ensures empty { IsAuthGraph [] }
+    ensures next { (events : List Stored) (next : Stored) → IsAuthGraph events → IsAuthNext events next → IsAuthGraph (events ++ next ∷ []) }
+    ensures last { (events : List Stored) (next : Stored) → IsAuthGraph (events ++ next ∷ []) → IsAuthNext events next }
+    ensures front { (events more : List Stored) → IsAuthGraph (events ++ more) → IsAuthGraph events }
 {}
 
 /// What a room has stored stays, in its order, whatever it is given.

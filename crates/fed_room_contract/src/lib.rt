@@ -62,8 +62,8 @@ pub use entry::Entry;
 pub use graph::{Graph, Stored};
 pub use input::Input;
 pub use laws::{
-    calls_are_inputs, entries_of_states, graphs_grow, rooms_grow, rooms_stay_well_formed,
-    rules_are_lawful, states_before_stay, stored_events_stay,
+    auth_graphs_grow, calls_are_inputs, entries_of_states, graphs_grow, rooms_grow,
+    rooms_stay_well_formed, rules_are_lawful, states_before_stay, stored_events_stay,
 };
 pub use prepared::Prepared;
 pub use receipt::Receipt;

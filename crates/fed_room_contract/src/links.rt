@@ -1,8 +1,8 @@
-// The places of the events that each stored event names.
+// The places of the auth events of each stored event.
 ghost use Rattle.std.specs.Prelude.{◌≡◌, ◌++◌, ◌∷◌, [], ℕ, List, OnOk, length, take};
 ghost use Rattle.std.specs.List.{concat, filter_map, slice_index_or};
 ghost use Rattle.fed_event.specs.EventIds.{ids_left};
-ghost use Rattle.fed_event.specs.Fields.{auth_events_of, prev_events_of};
+ghost use Rattle.fed_event.specs.Fields.{auth_events_of};
 ghost use Rattle.fed_room_contract.specs.LinkParts.{AreLinks, HasRoomFor};
 ghost use Rattle.fed_room_contract.specs.Places.{place_at};
 
@@ -74,17 +74,13 @@ impl Links {
     }
 }
 
-/// Adds the places of what an event names, for which there is room: it names at most 10 auth events and 20 prev events.
-pub(crate) fn add_named(auths: &mut Links, prevs: &mut Links, places: &Places, event: &Pdu)
-    requires auths { HasRoomFor 10 auths.old }
-    requires prevs { HasRoomFor 20 prevs.old }
-    ensures auths { (lists : List (List ℕ)) → AreLinks lists auths.old
+/// Adds the places of an event's auth events, for which there is room: it names at most 10.
+pub(crate) fn add_auths(auths: &mut Links, places: &Places, event: &Pdu)
+    requires { HasRoomFor 10 auths.old }
+    ensures { (lists : List (List ℕ)) → AreLinks lists auths.old
         → AreLinks (lists ++ filter_map (place_at places.now) (auth_events_of event.now) ∷ []) auths.new }
-    ensures prevs { (lists : List (List ℕ)) → AreLinks lists prevs.old
-        → AreLinks (lists ++ filter_map (place_at places.now) (prev_events_of event.now) ∷ []) prevs.new }
 {
     // What an event is made of tells how many ids it names at most, which is what there is room for.
     let _json = event.json();
     auths.add(places, event.auth_events());
-    prevs.add(places, event.prev_events());
 }

@@ -50,7 +50,7 @@ impl Model for EventStore {
 impl EventStore {
     ghost use Rattle.std.specs.Prelude.{true, false, None, Some, IfOk, IfErr, IfSome, IsOk, OnOk, OnErr, MatchOption, slice_get, option_map};
     ghost use Rattle.fed_room_contract.specs.declared.receipt.Receipt.TheVariants as receipt;
-    ghost use Rattle.fed_room_contract.specs.Graph.{is_stored, stored_at};
+    ghost use Rattle.fed_room_contract.specs.Graph.{IsGraph, is_stored, stored_at};
     ghost use Rattle.fed_room_contract.specs.Room.{Rules, event_id, is_known, receipt_of, first_ready, empty_room, extremities_of};
     ghost use Rattle.fed_room_contract.specs.Store.{with_room_for, after_store};
     ghost use Rattle.fed_room_contract.specs.Arrival.{IsArrival, IsFirstReady};
@@ -164,7 +164,8 @@ impl EventStore {
         requires reserved { self.old.reserved ≡ Some (event_id event) }
         requires new { is_stored self.old.room.stored (event_id event) ≡ false }
         requires ready { is_ready self.old.room.stored event.event ≡ true }
-        ensures { self.new ≡ after_store self.old event verdict }
+        ensures stored { self.new ≡ after_store self.old event verdict }
+        ensures graph { IsGraph self.new.room.stored }
     {
         forget(
             &mut self.waiting,
@@ -194,7 +195,8 @@ impl EventStore {
     pub fn store_waiting(&mut self, place: usize, verdict: Verdict)
         requires first { IsFirstReady self.old.room place }
         requires reserved { option_map event_id (slice_get self.old.room.waiting place) ≡ self.old.reserved }
-        ensures { IfSome (slice_get self.old.room.waiting place) (λ event. self.new ≡ after_store self.old event verdict) }
+        ensures stored { IfSome (slice_get self.old.room.waiting place) (λ event. self.new ≡ after_store self.old event verdict) }
+        ensures graph { IsGraph self.new.room.stored }
     {
         let event = self.waiting.remove(place);
         self.lacks.remove(place);

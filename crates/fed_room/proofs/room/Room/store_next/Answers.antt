@@ -18,7 +18,7 @@ invariant_of-self c =
     let ready : is_ready events event.event ≡ true = ap (λ (r : RoomValue). is_ready r.store.room.stored event.event) c.self.view_is ∙ c.requires.ready in
     let next : c.self.inside.states.next ≡ Some (state_with (state_before events event.event) last) =
     ap (λ (r : RoomValue). r.next) c.self.view_is ∙ c.requires.next ∙ ap (λ (r : RoomValue). Some (state_with (state_before r.store.room.stored event.event) last)) (sym c.self.view_is) in
-    let stored : c.store.new.self.room.stored ≡ events ++ last ∷ [] = ap (λ (s : StoreState). s.room.stored) c.store.ensures in
+    let stored : c.store.new.self.room.stored ≡ events ++ last ∷ [] = ap (λ (s : StoreState). s.room.stored) c.store.ensures.stored in
     record {
       graph = subst IsGraph (sym stored) (graph-more events kept last c.self.invariant.graph c.self.invariant.after new ready);
       after = kept-more events kept last c.self.invariant.graph c.self.invariant.after new ready c.push_next.new.self c.self.inside.states.next next c.push_next.ensures ∙ ap states_after (sym stored);

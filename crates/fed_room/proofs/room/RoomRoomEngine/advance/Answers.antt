@@ -7,7 +7,6 @@ use Rattle.fed_event.specs.Checked.{CheckedEvent}
 use Rattle.fed_event.specs.EventId.{event_id_of}
 use Rattle.fed_room_contract.specs.declared.graph.Stored.{Stored}
 use Rattle.fed_room_contract.specs.Graph.{IsGraph, is_ready}
-use Rattle.fed_room_contract.specs.GraphState.{GraphState}
 use Rattle.fed_room_contract.specs.declared.receipt.Receipt.TheVariants as receipt
 use Rattle.fed_room_contract.specs.Room.{event_id, first_ready, with_ready, with_stored}
 use Rattle.fed_room_contract.specs.Store.{StoreState, after_store}
@@ -44,9 +43,9 @@ invariant_of-self-2 c =
     let room = c.in_ok-keep.ensures.room in
     let at-now : slice_get c.keep.new.store.room.waiting place ≡ Some event = ap (λ (s : StoreState). slice_get s.room.waiting place) room ∙ at in
     let new : c.store_waiting.new.self ≡ after_store c.keep.new.store event verdict =
-    subst (λ (o : Option CheckedEvent). IfSome o (λ e. c.store_waiting.new.self ≡ after_store c.keep.new.store e verdict)) at-now c.store_waiting.ensures in
+    subst (λ (o : Option CheckedEvent). IfSome o (λ e. c.store_waiting.new.self ≡ after_store c.keep.new.store e verdict)) at-now c.store_waiting.ensures.stored in
     let stored : c.store_waiting.new.self.room.stored ≡ old.room.stored ++ last ∷ [] = ap (λ (s : StoreState). s.room.stored) new ∙ ap (λ (s : StoreState). s.room.stored ++ last ∷ []) room in
-    let graph : IsGraph c.store_waiting.new.self.room.stored = subst (λ (g : GraphState). IsGraph g.stored) c.graph.ensures c.events-stored.ensures.graph in
+    let graph : IsGraph c.store_waiting.new.self.room.stored = c.store_waiting.ensures.graph in
     let seen : c.event-event.result.now ≡ event.event = c.event-event.ensures.event ∙ ap (λ (e : CheckedEvent). e.event) copied in
     let next : StateMap = after_seen kept c.event-event.result.now c.in_ok-verdict.after in
     let pushed : c.push_next.new.self ≡ record { after = kept ++ next ∷ []; next = None } =
@@ -88,7 +87,7 @@ returns-clause-after c =
     let room = c.in_ok-keep.ensures.room in
     let at-now : slice_get c.keep.new.store.room.waiting place ≡ Some event = ap (λ (s : StoreState). slice_get s.room.waiting place) room ∙ at in
     let new : c.store_waiting.new.self ≡ after_store c.keep.new.store event c.in_ok-verdict.verdict =
-    subst (λ (o : Option CheckedEvent). IfSome o (λ e. c.store_waiting.new.self ≡ after_store c.keep.new.store e c.in_ok-verdict.verdict)) at-now c.store_waiting.ensures in
+    subst (λ (o : Option CheckedEvent). IfSome o (λ e. c.store_waiting.new.self ≡ after_store c.keep.new.store e c.in_ok-verdict.verdict)) at-now c.store_waiting.ensures.stored in
     let found : first_ready (room_of c.args.self.now) ≡ Some event = ap (λ (r : RoomValue). first_ready (room_of r)) (sym c.self.view_is) ∙ c.in-Some.ensures.first ∙ at in
     let verdict : c.in_ok-verdict.verdict ≡ verdict_of now event =
     c.in_ok-verdict.ensures.verdict ∙ ap (verdict_of now) copied in

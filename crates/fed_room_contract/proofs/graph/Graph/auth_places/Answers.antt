@@ -1,6 +1,6 @@
 use Rattle.std.proofs.Common.{◌≡◌, ◌<◌, List, map, length, ap, subst, ◌∙◌}
 use Rattle.fed_room_contract.specs.declared.graph.Stored.{Stored}
-use Rattle.fed_room_contract.specs.Graph.{IsGraph, auth_links, auth_places_at}
+use Rattle.fed_room_contract.specs.Graph.{IsAuthGraph, auth_links, auth_places_at}
 use Rattle.fed_room_contract.specs.GraphState.{GraphState}
 use Rattle.std.proofs.lemmas.List.Elements.{All-same}
 use Rattle.fed_room_contract.proofs.GraphLinks.{auths-at, auths-before, auths-within}
@@ -11,7 +11,7 @@ returns c =
     let inside = c.self.inside.events.items in
     let events = c.args.self.now.stored in
     let stored : inside ≡ events = ap (λ (g : GraphState). g.stored) c.self.view_is in
-    let graph : IsGraph events = subst IsGraph stored c.self.invariant.graph in
+    let graph : IsAuthGraph events = subst IsAuthGraph stored c.self.invariant.graph in
     let here =
     c.get.ensures (map (auth_links inside) inside) c.self.invariant.auths ∙ auths-at inside c.args.place ∙ ap (λ (es : List Stored). auth_places_at es c.args.place) stored in
     record {

@@ -6,14 +6,15 @@ use Rattle.std.specs.Cmp.Lexicographic.{slice_cmp, nat_list_cmp_total}
 use Rattle.fed_room_contract.proofs.PlaceMaps.{itself}
 use Rattle.serde_json.specs.Data.{Data}
 use Rattle.fed_event.specs.EventId.{event_id_of}
-use Rattle.fed_event.specs.Fields.{auth_events_of, prev_events_of}
+use Rattle.fed_event.specs.Fields.{auth_events_of}
 use Rattle.fed_room_contract.specs.Places.{PlaceMap, place_at}
 use Rattle.fed_room_contract.specs.declared.graph.Stored.{Stored}
-use Rattle.fed_room_contract.specs.Graph.{IsGraph, IsNext, has_id, id_of, auth_links, prev_links}
+use Rattle.fed_room_contract.specs.Graph.{IsAuthGraph, IsAuthNext, has_id, id_of, auth_links}
 use Rattle.fed_room_contract.specs.LinkParts.{AreLinks, HasRoomFor}
 use Rattle.fed_room_contract.specs.GraphState.{GraphState}
-use Rattle.fed_room_contract.proofs.GraphLinks.{auths-more, prevs-more}
-use Rattle.fed_room_contract.proofs.Graphs.{graph_grows, entered_more}
+use Rattle.fed_room_contract.proofs.GraphLinks.{auths-more}
+use Rattle.fed_room_contract.proofs.Graphs.{entered_more}
+use Rattle.fed_room_contract.proofs.AuthGraphs.{auth_graph_grows}
 use Rattle.fed_room_contract.proofs.graph.Graph.push_reserved.Goals as goal
 
 -- no room is left beside the id that is entered
@@ -30,13 +31,9 @@ room_there : (o : Option (List ℕ)) (id : List ℕ) (P : Type 0) → o ≡ Some
 room_there None id P e h = absurd (cc)
 room_there (Some x) id P e h = h
 
-pub add_named-requires-clause-auths : goal.add_named-requires-clause-auths
-add_named-requires-clause-auths c =
+pub add_auths-requires : goal.add_auths-requires
+add_auths-requires c =
     room_there c.self.inside.reserved (event_id_of c.args.event.event) (HasRoomFor 10 c.self.inside.auths) (ap (λ (g : GraphState). g.reserved) c.self.view_is ∙ c.requires.reserved) c.self.invariant.spare_auths
-
-pub add_named-requires-clause-prevs : goal.add_named-requires-clause-prevs
-add_named-requires-clause-prevs c =
-    room_there c.self.inside.reserved (event_id_of c.args.event.event) (HasRoomFor 20 c.self.inside.prevs) (ap (λ (g : GraphState). g.reserved) c.self.view_is ∙ c.requires.reserved) c.self.invariant.spare_prevs
 
 pub invariant_of-self : goal.invariant_of-self
 invariant_of-self c =
@@ -45,7 +42,7 @@ invariant_of-self c =
     let xs = old.events.items in
     let same : xs ≡ c.args.self.now.stored = ap (λ (g : GraphState). g.stored) c.self.view_is in
     let items : c.push.new.self.items ≡ xs ++ last ∷ [] = c.push.ensures.items ∙ ap (λ r. if is_ok r then xs ++ last ∷ [] else xs) c.unwrap.ensures in
-    let next : IsNext xs last = subst (λ (ys : List Stored). IsNext ys last) (sym same) (record { new = c.requires.new; ready = c.requires.ready }) in
+    let next : IsAuthNext xs last = subst (λ (ys : List Stored). IsAuthNext ys last) (sym same) (record { new = c.requires.new; auths = c.requires.auths }) in
     let id : c.as_str.result.now ≡ id_of last = c.as_str.ensures.text ∙ c.id.ensures ∙ ap event_id_of c.event-2.ensures.event in
     let len : c.len-place.result ≡ length xs = let fact = old.events.ok.0 in let counted = c.len-place.ensures in omega arith in
     let places : c.enter.new.self ≡ finite.insert old.places (id_of last) (Some (length xs)) =
@@ -53,19 +50,14 @@ invariant_of-self c =
     let taken : (P : Type 0) → IfSome c.take.new.self (λ _. P) = λ P. subst (λ (o : Option (List ℕ)). IfSome o (λ _. P)) (sym c.take.ensures.after) tt in
     let event : c.event.result.now ≡ last.event.event = c.event.ensures.event in
     record {
-      graph = subst IsGraph (sym items) (graph_grows xs last c.self.invariant.graph next);
+      graph = subst IsAuthGraph (sym items) (auth_graph_grows xs last c.self.invariant.graph next);
       entered = λ q. ap (λ (m : PlaceMap). place_at m q) places ∙ entered_more old.places xs last c.self.invariant.entered next.new q ∙ ap (position (has_id q)) (sym items);
       spare = subst (λ (o : Option (List ℕ)). IfSome o (λ _. vec_len c.push.new.self < vec_capacity c.push.new.self)) (sym c.take.ensures.after) tt;
       named = subst (λ (o : Option (List ℕ)). IfSome o (λ id. IsSome (finite.get c.enter.new.self id))) (sym c.take.ensures.after) tt;
       auths =
-          subst (λ (es : List Stored). AreLinks (map (auth_links es) es) c.add_named.new.auths) (sym items)
-          (subst (λ (ls : List (List ℕ)). AreLinks ls c.add_named.new.auths) (auths-more xs last old.places c.self.invariant.graph next c.self.invariant.entered)
-          (subst (λ (e : Data). AreLinks (map (auth_links xs) xs ++ filter_map (place_at old.places) (auth_events_of e) ∷ []) c.add_named.new.auths) event (c.add_named.ensures.auths (map (auth_links xs) xs) c.self.invariant.auths)));
-      prevs =
-          subst (λ (es : List Stored). AreLinks (map (prev_links es) es) c.add_named.new.prevs) (sym items)
-          (subst (λ (ls : List (List ℕ)). AreLinks ls c.add_named.new.prevs) (prevs-more xs last old.places c.self.invariant.graph next c.self.invariant.entered)
-          (subst (λ (e : Data). AreLinks (map (prev_links xs) xs ++ filter_map (place_at old.places) (prev_events_of e) ∷ []) c.add_named.new.prevs) event (c.add_named.ensures.prevs (map (prev_links xs) xs) c.self.invariant.prevs)));
-      spare_auths = taken (HasRoomFor 10 c.add_named.new.auths);
-      spare_prevs = taken (HasRoomFor 20 c.add_named.new.prevs);
+          subst (λ (es : List Stored). AreLinks (map (auth_links es) es) c.add_auths.new.auths) (sym items)
+          (subst (λ (ls : List (List ℕ)). AreLinks ls c.add_auths.new.auths) (auths-more xs last old.places c.self.invariant.graph next c.self.invariant.entered)
+          (subst (λ (e : Data). AreLinks (map (auth_links xs) xs ++ filter_map (place_at old.places) (auth_events_of e) ∷ []) c.add_auths.new.auths) event (c.add_auths.ensures (map (auth_links xs) xs) c.self.invariant.auths)));
+      spare_auths = taken (HasRoomFor 10 c.add_auths.new.auths);
       once = λ q h. absurd (entered_once old.places (id_of last) q (length xs) old.reserved (ap (λ (g : GraphState). g.reserved) c.self.view_is ∙ c.requires.reserved) c.self.invariant.once (ap (λ (m : PlaceMap). finite.get m q) (sym places) ∙ h));
     }

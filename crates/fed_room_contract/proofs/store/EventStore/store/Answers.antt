@@ -56,3 +56,11 @@ renew-requires c =
     (subst (λ (rs : List (Option ℕ)). AreRight 0 (tag_of_id (id_of last)) rs c.deref_mut.result.now) (sym rights)
     (subst (λ (ls : List (Option ℕ)). AreRight 0 (tag_of_id (id_of last)) (map (lack_of (xs ++ last ∷ [])) c.forget.new.waiting.items) ls) (sym lacks)
     (right_but_one xs last c.forget.new.waiting.items)))
+
+pub returns-clause-graph : goal.returns-clause-graph
+returns-clause-graph c =
+    let last : Stored = record { event = c.args.event; verdict = c.args.verdict } in
+    let xs = c.self.inside.graph.stored in
+    let stored : c.push_reserved-id.new.self.stored ≡ xs ++ last ∷ [] = ap (λ (g : GraphState). g.stored) c.push_reserved-id.ensures.stored in
+    let next : IsNext xs last = subst (λ (s : StoreState). IsNext s.room.stored last) (sym c.self.view_is) (record { new = c.requires.new; ready = c.requires.ready }) in
+    subst IsGraph (sym stored) (graph_grows xs last c.self.invariant.graph next)

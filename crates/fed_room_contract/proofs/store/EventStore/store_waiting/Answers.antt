@@ -41,8 +41,8 @@ store-requires-clause-ready c =
     ap (λ (s : StoreState). first_ready s.room) c.self.view_is ∙ c.requires.first.first ∙ ap (λ (s : StoreState). slice_get s.room.waiting c.args.place) (sym c.self.view_is) ∙ taken in
     found_passes ready waiting c.remove-event.result first
 
-pub returns : goal.returns
-returns c =
+pub returns-clause-stored : goal.returns-clause-stored
+returns-clause-stored c =
     let waiting = c.self.inside.waiting.items in
     let event = c.remove-event.result in
     let self = c.args.self.now in
@@ -57,4 +57,4 @@ returns c =
     ap (λ (ws : List CheckedEvent). rest (without (event_id event) ws)) c.remove-event.ensures.items
     ∙ ap rest (without-taken waiting c.args.place event taken)
     ∙ ap (λ (s : StoreState). after_store s event c.args.verdict) c.self.view_is in
-    subst (λ (o : Option CheckedEvent). IfSome o (λ event. c.store.new.self ≡ after_store self event c.args.verdict)) (sym there) (c.store.ensures ∙ after)
+    subst (λ (o : Option CheckedEvent). IfSome o (λ event. c.store.new.self ≡ after_store self event c.args.verdict)) (sym there) (c.store.ensures.stored ∙ after)
