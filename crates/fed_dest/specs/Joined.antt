@@ -7,7 +7,7 @@ use Rattle.std.specs.List.Sorted.{IsStrictlyIncreasing}
 use Rattle.serde_json.specs.Data.{Data}
 use Rattle.serde_json.specs.Find.{as_str, get}
 use Rattle.fed_event.specs.Ids.{domain_of}
-use Rattle.fed_event.specs.Fields.{content_of}
+use Rattle.fed_event.specs.Fields.{content_of, kind_of, state_key_of}
 use Rattle.fed_event.specs.Tests.{holds}
 use Rattle.fed_room_contract.specs.declared.graph.Stored.{Stored}
 use Rattle.fed_room_contract.specs.Graph.{stored_at}
@@ -20,6 +20,11 @@ membership_of event = option_and_then as_str (get (codes "membership") (content_
 
 abbrev pub says_join : Data → Bool
 says_join event = holds (λ membership. bytes_eq membership (codes "join")) (membership_of event)
+
+-- an event by which a user of this server is joined
+abbrev pub joins_server : List ℕ → Data → Bool
+joins_server server event =
+    holds (λ state_key. bytes_eq (kind_of event) (codes "m.room.member") && bytes_eq (domain_of state_key) server && says_join event) (state_key_of event)
 
 -- the event of this id is stored, and says so
 abbrev pub is_join : List Stored → List ℕ → Bool

@@ -2,11 +2,12 @@
 ghost use Rattle.std.specs.Prelude.{◌≡◌, ℕ, IfOk, option_map};
 ghost use Rattle.fed_room_contract.specs.Entry.{seen};
 ghost use Rattle.fed_dest.specs.ServerSet.{is_among};
-ghost use Rattle.fed_dest.specs.Joined.{membership_of, says_join, is_join, is_joined_place, is_destination};
+ghost use Rattle.fed_dest.specs.Joined.{membership_of, says_join, joins_server, is_join, is_joined_place, is_destination};
 ghost use Rattle.fed_dest.specs.JoinedParts.{joined_by};
 
 use crate::list::List;
 use crate::server_index::ServerIndex;
+use crate::server_name::ServerName;
 use crate::server_set::ServerSet;
 use fed_event::{EventId, Pdu, domain};
 use fed_json::NoMemory;
@@ -52,6 +53,21 @@ pub fn destinations(
     let mut others = joined_servers(alloc, graph, state, servers)?.into_vec();
     others.retain(|server| *server != own);
     Ok(ServerSet::of(others))
+}
+
+/// Whether a user of this server is joined by an event (Client-Server API, "m.room.member"): the event is a member event of that user, and the
+/// membership in its content is `join`.
+pub fn joins_server(event: &Pdu, server: &ServerName) -> bool
+    ensures { result ≡ joins_server server.now event.now }
+{
+    match event.state_key() {
+        Some(state_key) => {
+            event.kind() == "m.room.member"
+                && domain(state_key) == server.as_str()
+                && says_join(event)
+        }
+        None => false,
+    }
 }
 
 // The listed server whose user an entry joins.

@@ -15,7 +15,7 @@ mod server_index;
 mod server_name;
 mod server_set;
 
-pub use joined::{destinations, joined_servers};
+pub use joined::{destinations, joined_servers, joins_server};
 pub use laws::{destinations_stay, what_destinations_are};
 pub use list::{List, ListFault};
 pub use server_index::{MAX_SERVERS, ServerIndex};
