@@ -42,7 +42,7 @@ extern "C" {
  * so that a program for the number before would not expect it. wikzord_version, which returns no status, tells the number of the library that a
  * program has loaded: where it is another one than the program was compiled with, make no other call.
  */
-#define WIKZORD_VERSION 1
+#define WIKZORD_VERSION 2
 
 uint32_t wikzord_version(void);
 
@@ -244,14 +244,14 @@ uint32_t wikzord_reply(const uint8_t *verdicts, size_t verdicts_len, uint8_t *ou
 /*
  * ---- rooms ----
  *
- * `events` is an array of the events of a room. Each stands behind the events that it names as prev events and as auth events, which all stand
- * there, and none stands there twice. Each passes the tests of wikzord_event_test and has a signature of its sender's server; whether
- * signatures check is the caller's to see before. Of an event whose content hash does not fit the redaction is looked at. `state` is an array
- * of the ids of the events that hold in a state of the room: each is a state event of `events`, and no two stand at one type and state key.
+ * Each event that one of these is given passes the tests of wikzord_event_test and has a signature of its sender's server; whether signatures check
+ * is the caller's to see before. Of an event whose content hash does not fit the redaction is looked at.
  *
- * A function that is given several of these looks at one after another, in the order that it names. Of each it returns WIKZORD_NOT_JSON or
- * WIKZORD_NOT_CANONICAL where it is no JSON text of whole numbers; then WIKZORD_BAD_EVENTS where `events` is no such array, and WIKZORD_BAD_STATE
- * where `state` is none.
+ * `state` is an array of the events of a state of the room, in any order, of which no two stand at one type and state key. Of it they return
+ * WIKZORD_NOT_JSON or WIKZORD_NOT_CANONICAL where it is no JSON text of whole numbers, WIKZORD_BAD_EVENTS where it is no array of such events, and
+ * WIKZORD_BAD_STATE where one of them is no state event or two stand at one type and state key.
+ *
+ * A function that is given several arrays looks at one after another, in the order in which it tells what it returns.
  */
 
 /*
@@ -261,13 +261,10 @@ uint32_t wikzord_reply(const uint8_t *verdicts, size_t verdicts_len, uint8_t *ou
  * wikzord_allowed_by_auth_events. But by 2.4 a state without a create event rejects all but a create event. `authorised` tells whether the signatures
  * of other servers than the sender's have checked, which the rules ask of the server of `join_authorised_via_users_server`.
  *
- * Here `state` is an array of events, in any order: those of the state, of which the ones that wikzord_auth_selection names are enough. Each
- * passes the tests of wikzord_event_test and has a signature of its sender's server, and the create event among them is taken for the first event
- * of the room.
+ * Of the events of `state` those are enough that wikzord_auth_selection names, and the create event among them is taken for the first event of the
+ * room.
  *
- * WIKZORD_NOT_JSON or WIKZORD_NOT_CANONICAL where `state` is no JSON text of whole numbers, WIKZORD_BAD_EVENTS where it is no such array,
- * WIKZORD_BAD_STATE where one of them is no state event or two stand at one type and state key; then the status of the first test that the event
- * fails, as wikzord_event_test tells it; then WIKZORD_NOT_SIGNED.
+ * What is so of `state`; then the status of the first test that the event fails, as wikzord_event_test tells it; then WIKZORD_NOT_SIGNED.
  */
 uint32_t wikzord_allowed(const uint8_t *text, size_t text_len, const uint8_t *state, size_t state_len, bool authorised,
                          uint8_t *out, size_t out_len, size_t *needed);
@@ -290,23 +287,27 @@ uint32_t wikzord_allowed_by_auth_events(const uint8_t *text, size_t text_len, co
 
 /*
  * The servers that an event goes to (Server-Server API, "PDUs"), by the state before it: the canonical text of an array of those of `servers`,
- * in their order, that have a user who is joined, without `own`, which is the name of the own server. `servers` is an array of names. It takes
- * time for each event of the state and each server.
+ * in their order, that have a user who is joined, without `own`, which is the name of the own server. `servers` is an array of names. Of the
+ * events of `state` the member events are enough. It takes time for each event of the state and each server.
  *
  * WIKZORD_NOT_JSON or WIKZORD_NOT_CANONICAL where `servers` is no JSON text of whole numbers, WIKZORD_BAD_SERVERS where it is no such array; then
- * what is so of `events`, and then of `state`.
+ * what is so of `state`.
  */
-uint32_t wikzord_destinations(const uint8_t *events, size_t events_len, const uint8_t *state, size_t state_len,
-                              const uint8_t *servers, size_t servers_len, const uint8_t *own, size_t own_len,
-                              uint8_t *out, size_t out_len, size_t *needed);
+uint32_t wikzord_destinations(const uint8_t *state, size_t state_len, const uint8_t *servers, size_t servers_len,
+                              const uint8_t *own, size_t own_len, uint8_t *out, size_t out_len, size_t *needed);
 
 /*
  * The state that several states of a room resolve to (room version 2, "State resolution"): the canonical text of an array of the ids of its
- * events, in the order of their types and, within a type, of their state keys. `states` is an array of states, and `rejected` an array of the
- * ids of the events that were rejected, by their auth events or by the state before them; an id of none of `events` counts for nothing.
+ * events, in the order of their types and, within a type, of their state keys.
+ *
+ * `events` is an array of events of the room, each behind the ones that it names as auth events, and none of them twice: those of the states and of
+ * their auth chains are enough. Prev events need not stand there. `rejected` is an array of the ids of the events that were rejected, by their auth
+ * events or by the state before them; an id of none of `events` counts for nothing. `states` is an array of states, each an array of ids: each of a
+ * state event of `events`, and no two of events at one type and state key.
  *
  * WIKZORD_NOT_JSON or WIKZORD_NOT_CANONICAL where `rejected` is no JSON text of whole numbers, WIKZORD_BAD_IDS where it is no such array; then
- * what is so of `events`; then WIKZORD_NOT_JSON, WIKZORD_NOT_CANONICAL or WIKZORD_BAD_STATE where `states` is no array of states.
+ * WIKZORD_NOT_JSON, WIKZORD_NOT_CANONICAL or WIKZORD_BAD_EVENTS where `events` is none; then WIKZORD_NOT_JSON, WIKZORD_NOT_CANONICAL or
+ * WIKZORD_BAD_STATE where `states` is no array of states.
  */
 uint32_t wikzord_resolve(const uint8_t *events, size_t events_len, const uint8_t *rejected, size_t rejected_len,
                          const uint8_t *states, size_t states_len, uint8_t *out, size_t out_len, size_t *needed);

@@ -23,7 +23,7 @@ __all__ = [
 ]
 
 # The number of the interface that this module is for: `WIKZORD_VERSION` of wikzord.h.
-VERSION = 1
+VERSION = 2
 
 
 class Status(enum.IntEnum):
@@ -421,21 +421,21 @@ def allowed_by_auth_events(
     return _rule(_answer(_allowed_by_auth_events, *_slices(event, _array(auth_events), _items(rejected)), _truth(authorised)))
 
 
-def destinations(events: typing.Iterable[Value], state: typing.Iterable[str], servers: typing.Iterable[str], own: Text) -> typing.List[str]:
+def destinations(state: typing.Iterable[Value], servers: typing.Iterable[str], own: Text) -> typing.List[str]:
     """Those of `servers` that an event goes to, in their order: they have a user who is joined in the state before it, and are not the own one.
 
-    `events` are the room's events, each behind those that it names, and `state` the ids of those that hold in the state. Refused: NOT_UTF8 where
-    `own` is not; of the servers NOT_JSON, BAD_SERVERS; of the events NOT_JSON, NOT_CANONICAL, BAD_EVENTS; of the state NOT_JSON, BAD_STATE.
+    `state` has the events of that state, of which the member events are enough. Refused: NOT_UTF8 where `own` is not; of the servers NOT_JSON,
+    BAD_SERVERS; of the state NOT_JSON, NOT_CANONICAL, BAD_EVENTS, BAD_STATE.
     """
-    return json.loads(_answer(_destinations, *_slices(_array(events), _items(state), _items(servers), _text(own))))
+    return json.loads(_answer(_destinations, *_slices(_array(state), _items(servers), _text(own))))
 
 
 def resolve(events: typing.Iterable[Value], states: typing.Iterable[typing.Iterable[str]], rejected: typing.Iterable[str] = ()) -> typing.List[str]:
     """The ids of the events of the state that several states of a room resolve to, in the order of their types and state keys.
 
-    `events` are the room's events, each behind those that it names, `rejected` the ids of those that were rejected, and each state has the ids
-    of its events. Refused: of the rejected ones NOT_JSON, BAD_IDS; of the events NOT_JSON, NOT_CANONICAL, BAD_EVENTS; of the states NOT_JSON,
-    BAD_STATE.
+    `events` are events of the room, each behind its auth events, of which those of the states and of their auth chains are enough; `rejected` has the
+    ids of those that were rejected, and each state the ids of its events. Refused: of the rejected ones NOT_JSON, BAD_IDS; of the events NOT_JSON,
+    NOT_CANONICAL, BAD_EVENTS; of the states NOT_JSON, BAD_STATE.
     """
     return json.loads(_answer(_resolve, *_slices(_array(events), _items(rejected), [_items(state) for state in _items(states)])))
 

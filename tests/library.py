@@ -178,6 +178,16 @@ def allowed_answer(call, wanted):
     return {"error": str(rule)} if rule else {"ok": None}
 
 
+def auth_chains(events, ids, wanted):
+    """Those of the events that are wanted or stand in the auth chain of one, in their order."""
+    kept, wanted = [], set(wanted)
+    for event, event_id in reversed(list(zip(events, ids))):
+        if event_id in wanted:
+            wanted.update(json.loads(event)["auth_events"])
+            kept.insert(0, event)
+    return kept
+
+
 def resolution_answer(call, wanted):
     """The places of what states resolve to; of the other operations the answer is not for this library."""
     events, ids = events_and_ids(call)
@@ -186,7 +196,10 @@ def resolution_answer(call, wanted):
     for number, operation in enumerate(call["operations"]):
         if list(operation) == ["resolve"]:
             states = [[ids[place] for place in holding(call, state)] for state in operation["resolve"]]
-            answers[number] = [ids.index(event_id) for event_id in wikzord.resolve(events, states, rejected)]
+            resolved = wikzord.resolve(events, states, rejected)
+            chains = auth_chains(events, ids, (event_id for state in states for event_id in state))
+            check("the states' auth chains are enough", wikzord.resolve(chains, states, rejected), resolved)
+            answers[number] = [ids.index(event_id) for event_id in resolved]
     return {"ok": answers}
 
 
@@ -194,13 +207,16 @@ def destinations_answer(call, wanted):
     """The servers that an event goes to, and by the empty name of a server, which none has, those that are joined."""
     if wanted.get("error") == "a server is listed twice":
         return wanted
-    events, ids = events_and_ids(call)
-    state = [ids[place] for place in holding(call, call["state"])]
+    state = [text(call["graph"][place]["event"]) for place in holding(call, call["state"])]
+    members = [event for event in state if json.loads(event)["type"] == "m.room.member"]
     servers = sorted(call["servers"])
-    return answered(lambda: {
-        "destinations": wikzord.destinations(events, state, servers, call["own"]),
-        "joined": wikzord.destinations(events, state, servers, ""),
-    })
+
+    def told(events):
+        return {"destinations": wikzord.destinations(events, servers, call["own"]), "joined": wikzord.destinations(events, servers, "")}
+
+    if "ok" in wanted:
+        check("the member events of a state are enough", told(members), told(state))
+    return answered(lambda: told(state))
 
 
 def signing_answer(call, wanted):
@@ -326,12 +342,14 @@ def room_functions():
         ("allowed of an event of one who is not joined", wikzord._allowed, (*slices(other, events), yes), bytes([5, 0, 0]), []),
         ("allowed where nothing is held", wikzord._allowed, (*slices(mine, b"[]"), yes), bytes([2, 4, 0]), []),
         ("allowed by one alone who is not joined", wikzord._allowed, (*slices(mine, text([create])), yes), bytes([5, 0, 0]), []),
-        ("destinations", wikzord._destinations, slices(events, state, b'["b","a.example","a.example"]', b"b"), b'["a.example","a.example"]', [
-            *((slices(wrong, state, b"[]", b"a"), refused.BAD_EVENTS) for wrong in wrong_events),
-            *((slices(events, wrong, b"[]", b"a"), refused.BAD_STATE) for wrong in wrong_states),
-            *((slices(b"{}", b"{}", wrong, b"a"), refused.BAD_SERVERS) for wrong in (b"{}", b"[5]", b'["a b"]', b'["a",["a"]]', b'[""]')),
-            (slices(events, state, b"[", b"a"), refused.NOT_JSON), (slices(events, state, b"[1.5]", b"a"), refused.NOT_CANONICAL)]),
-        ("destinations without the own server", wikzord._destinations, slices(events, state, b'["a.example"]', b"a.example"), b"[]", []),
+        ("destinations", wikzord._destinations, slices(events, b'["b","a.example","a.example"]', b"b"), b'["a.example","a.example"]', [
+            *((slices(wrong, b"[]", b"a"), refused.BAD_EVENTS) for wrong in (b"{}", b"null", b"[5]", b"[{}]", text([create | {"signatures": {}}]))),
+            *((slices(wrong, b"[]", b"a"), refused.BAD_STATE) for wrong in (text([create, create]), text([join, create, rejoin]), text([create, json.loads(other)]))),
+            *((slices(b"{}", wrong, b"a"), refused.BAD_SERVERS) for wrong in (b"{}", b"[5]", b'["a b"]', b'["a",["a"]]', b'[""]')),
+            (slices(events, b"[", b"a"), refused.NOT_JSON), (slices(b"[", b"[]", b"a"), refused.NOT_JSON),
+            (slices(events, b"[1.5]", b"a"), refused.NOT_CANONICAL), (slices(b"[1.5]", b"[]", b"a"), refused.NOT_CANONICAL)]),
+        ("destinations by the member event alone", wikzord._destinations, slices(text([join]), b'["a.example"]', b"b"), b'["a.example"]', []),
+        ("destinations without the own server", wikzord._destinations, slices(events, b'["a.example"]', b"a.example"), b"[]", []),
         ("resolve", wikzord._resolve, slices(events, b"[]", b"[%s,%s]" % (state, state)), text([create_id, join_id]), [
             *((slices(wrong, b"[]", b"[]"), refused.BAD_EVENTS) for wrong in wrong_events),
             *((slices(events, b"[]", b"[%s]" % wrong), refused.BAD_STATE) for wrong in wrong_states),
@@ -514,8 +532,8 @@ def try_rooms():
     check("two memberships of one user", answered(lambda: wikzord.allowed(text(event_of(1)[0]), room)), bad_state)
     check("the same in another order", answered(lambda: wikzord.allowed(text(event_of(1)[0]), room[::-1])), bad_state)
     check("two memberships in a state that resolves", answered(lambda: wikzord.resolve(room, [state, [*state, leave_id]])), bad_state)
-    check("two memberships where servers are asked for", answered(lambda: wikzord.destinations(room, [*state, leave_id], [], "")), bad_state)
-    check("one membership or the other", wikzord.destinations(room, [create_id, leave_id], ["a.example"], ""), [])
+    check("two memberships where servers are asked for", answered(lambda: wikzord.destinations(room, [], "")), bad_state)
+    check("one membership or the other", wikzord.destinations([text(create), text(leave)], ["a.example"], ""), [])
     changed = event_of(3, type="m.room.member", state_key="@u:a.example", content={"membership": "join", "n": 1})[0]
     check("a redacted join is one", wikzord.allowed(text(event_of(1)[0]), [text(create), text(changed | {"content": {"membership": "join"}})]), None)
     another = event_of(0, type="m.room.create", state_key="", content=create["content"], origin_server_ts=2)[0]
@@ -591,8 +609,8 @@ def try_refusals():
     check("one in a state", answered(lambda: wikzord.allowed(event, [{"x": lone}])), not_json)
     check("one in rejected ids", answered(lambda: wikzord.resolve([], [], [lone])), not_json)
     check("one in a state's ids", answered(lambda: wikzord.resolve([], [[lone]])), not_json)
-    check("one in the name of a server", answered(lambda: wikzord.destinations([], [], [lone], "a")), not_json)
-    check("one in the own name", answered(lambda: wikzord.destinations([], [], [], lone)), not_utf8)
+    check("one in the name of a server", answered(lambda: wikzord.destinations([], [lone], "a")), not_json)
+    check("one in the own name", answered(lambda: wikzord.destinations([], [], lone)), not_utf8)
     # (the first fault in the order of the header, wherever the module sees it)
     check("rejected ones before events", answered(lambda: wikzord.resolve([b"{"], [[5]], [5])), {"error": "bad ids"})
     check("events before states", answered(lambda: wikzord.resolve([b"5"], [[5]])), {"error": "bad events"})
@@ -605,7 +623,7 @@ def try_refusals():
     for name, value in (("a str", "$x"), ("bytes", b"[]"), ("a dict", {"$x": True}), ("None", None)):
         check(f"{name} is no list", [raised(call) for call in (
             lambda: wikzord.resolve([], [], value), lambda: wikzord.resolve([], value), lambda: wikzord.resolve(value, []),
-            lambda: wikzord.allowed(event, value), lambda: wikzord.destinations([], [], value, "a"), lambda: wikzord.event_ids(value),
+            lambda: wikzord.allowed(event, value), lambda: wikzord.destinations([], value, "a"), lambda: wikzord.event_ids(value),
             lambda: wikzord.allowed_by_auth_events(event, value), lambda: wikzord.allowed_by_auth_events(event, [], value))], [TypeError] * 8)
 
 

@@ -1,18 +1,13 @@
--- Servers by the names of an array, and those of them that an event goes to.
-use Rattle.std.proofs.Common.{◌≡◌, ◌≢◌, ℕ, List, [], ◌∷◌, ◌++◌, map, length, All, Option, Some, None, option_map, Result, Ok, Err, IsErrAnd, IfOk, IfErr, Bor, refl, sym, ap, subst, ◌∙◌, append_assoc, arith}
-use Rattle.std.specs.List.Sorted.{IsPermutation}
+-- Servers by the names of an array.
+use Rattle.std.proofs.Common.{◌≡◌, ◌≢◌, ℕ, List, [], ◌∷◌, ◌++◌, map, All, Option, Some, None, option_map, Result, Ok, Err, IsErrAnd, IfOk, IfErr, Bor, refl, sym, ap, subst, ◌∙◌, append_assoc}
 use Rattle.std.proofs.lemmas.List.{map-append}
-use Rattle.std.proofs.lemmas.List.Elements.{All-head, All-tail, All-cons}
-use Rattle.std.proofs.lemmas.List.Sorted.{All-permutation, length_permutation}
+use Rattle.std.proofs.lemmas.List.Elements.{All-head, All-tail}
 use Rattle.serde_json.specs.Data.{Data, null, boolean, number, string, array, object, Items, no_items, item}
 use Rattle.serde_json.specs.Find.{as_str}
 use Rattle.serde_json.specs.View.{items_of}
 use Rattle.fed_json.specs.JsonRef.{as_items, list_of}
 use Rattle.fed_json.proofs.Parts.{list_of-items_of}
-use Rattle.fed_room_contract.specs.declared.graph.Stored.{Stored}
-use Rattle.fed_room_contract.specs.State.{StateMap}
 use Rattle.fed_dest.specs.ServerName.{IsServerName}
-use Rattle.fed_dest.specs.Joined.{is_joined, is_joined_place}
 use Rattle.fed_c.specs.declared.status.Status.{Status}
 use Rattle.fed_c.specs.declared.status.Status.TheVariants.{Memory, BadServers}
 use Rattle.fed_c.specs.Destinations.{AreServers, servers_fault, texts_value}
@@ -132,19 +127,3 @@ module _ {Y : Type 0} (value : Result Data Status) (json : Data) (items : List D
   pub no_servers : (answer : Result Y Status) → IfErr answer (λ e. e ≢ Memory → (e ≡ BadServers) × HasNoNames items) → IfErr answer (λ e. e ≢ Memory → IsFault value e)
   no_servers (Ok y) fault = tt
   no_servers (Err e) fault = λ other. let told = fault other in let none = no_names_there value json items is listed told.1 in (none.0 ∙ sym told.0, none.1)
-
--- ---- the list of one server
-
-of_one : (name : List ℕ) (names : List (List ℕ)) → length names ≡ 1 → All (λ other. other ≡ name) names → names ≡ name ∷ []
-of_one name [] one same = absurd (omega arith)
-of_one name (n ∷ []) one same = ap (λ m. m ∷ []) (All-head (λ other. other ≡ name) n [] same)
-of_one name (n ∷ m ∷ names) one same = absurd (omega arith)
-
-one_moved : (name : List ℕ) (names : List (List ℕ)) → IsPermutation (name ∷ []) names → names ≡ name ∷ []
-one_moved name names moved =
-    let itself : All (λ other. other ≡ name) (name ∷ []) = All-cons (λ other. other ≡ name) name [] refl (λ k d within. absurd (omega arith)) in
-    of_one name names (length_permutation (name ∷ []) names moved) (All-permutation (λ other. other ≡ name) (name ∷ []) names moved itself)
-
-pub joined_alone : (events : List Stored) (state : StateMap) (server : List ℕ) (names one : List (List ℕ)) → names ≡ server ∷ [] → IsPermutation names one
-    → is_joined_place events state one 0 ≡ is_joined events state server
-joined_alone events state server names one is moved = ap (λ ns. is_joined_place events state ns 0) (one_moved server one (subst (λ ns. IsPermutation ns one) is moved))

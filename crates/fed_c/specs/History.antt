@@ -1,4 +1,5 @@
--- The events of a room as a JSON array gives them (Matrix, Server-Server API, "PDUs"), each behind those that it names.
+-- Events of a room as a JSON array gives them (Matrix, Server-Server API, "PDUs"), each behind its auth events. Prev events need not stand there:
+-- state resolution looks at auth chains alone (room version 2, "State resolution").
 use Rattle.std.specs.Prelude.{ℕ, List, [], ◌∷◌, ◌++◌, Bool, true, not, ◌&&◌, is_none, map, bytes_eq, if◌then◌else◌, Result, Ok, Err}
 use Rattle.std.specs.List.{list_any}
 use Rattle.serde_json.specs.Data.{Data}
@@ -12,7 +13,7 @@ use Rattle.fed_event.specs.Checked.{CheckedEvent, checked_of}
 use Rattle.fed_room_contract.specs.declared.graph.Stored.{Stored}
 use Rattle.fed_room_contract.specs.declared.verdict.Verdict.{Verdict}
 use Rattle.fed_room_contract.specs.declared.verdict.Verdict.TheVariants.{Accepted, Rejected}
-use Rattle.fed_room_contract.specs.Graph.{is_stored, is_ready}
+use Rattle.fed_room_contract.specs.Graph.{is_stored, has_auths}
 use Rattle.fed_room_contract.specs.Verdict.{no_rule}
 use Rattle.fed_c.specs.declared.status.Status.{Status}
 use Rattle.fed_c.specs.declared.status.Status.TheVariants.{BadEvents}
@@ -40,9 +41,9 @@ verdict_by rejected id = if is_listed rejected id then Rejected no_rule else Acc
 abbrev pub stored_as : Data → CheckedEvent → Stored
 stored_as rejected checked = record { event = checked; verdict = verdict_by rejected (event_id_of checked.event) }
 
--- it is another one than those before it, and names only these
+-- it is another one than those before it, and its auth events are among them
 unfoldable pub comes_next : List Stored → Data → Bool
-comes_next before event = not (is_stored before (event_id_of event)) && is_ready before event
+comes_next before event = not (is_stored before (event_id_of event)) && has_auths before event
 
 -- behind these, each is an event and comes next
 abbrev pub continues : Data → List Stored → List Data → Bool

@@ -16,7 +16,7 @@ use Rattle.fed_c.specs.States.{states_in}
 abbrev pub ids_value : StateMap → Data
 ids_value state = array (items_of (map (λ entry. string entry.1) (finite.entries state)))
 
--- by the events of the room, those of them that are rejected, and the states
+-- by events of the room, those of them that are rejected, and the states
 abbrev pub resolved_answer : Result Data Status → Result Data Status → Result Data Status → Result (List ℕ) Status
 resolved_answer events rejected states =
     and_then (and_then rejected ids_in) (λ ids. and_then (history_in ids events) (λ stored. and_then (and_then states (states_in stored))

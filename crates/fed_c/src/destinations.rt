@@ -1,9 +1,10 @@
 //! The servers that an event goes to.
 ghost use Rattle.std.specs.Prelude.{◌≡◌, ◌≢◌, ◌∷◌, ◌++◌, [], ℕ, List, Ok, Err, IfOk, IfErr, IsErrAnd, OnOk};
+ghost use Rattle.std.specs.List.{list_any};
 ghost use Rattle.serde_json.specs.Data.{string};
 ghost use Rattle.fed_json.specs.Items.{left};
 ghost use Rattle.fed_json.specs.JsonRef.{seen};
-ghost use Rattle.fed_dest.specs.Joined.{is_joined};
+ghost use Rattle.fed_dest.specs.Joined.{joins_server};
 ghost use Rattle.fed_dest.specs.ServerName.{IsServerName};
 ghost use Rattle.fed_c.specs.Destinations.{AreServers, destinations_answer, sent_to, servers_fault, texts_value};
 ghost use Rattle.fed_c.specs.DestinationsParts.{AreNames, HasNoNames, IsNoName};
@@ -11,27 +12,25 @@ ghost use Rattle.fed_c.specs.Output.{Gives};
 ghost use Rattle.fed_c.specs.Values.{value_of};
 ghost use Rattle.fed_c.specs.declared.status.Status.TheVariants.{Memory, BadServers};
 
-use crate::history::history;
 use crate::output::{Answer, give};
-use crate::states::state;
+use crate::state_events::{made_of, state_events};
 use crate::status::Status;
 use crate::values::value;
-use fed_dest::{NameFault, ServerIndex, ServerName, joined_servers};
+use fed_dest::{NameFault, ServerName, joins_server};
+use fed_event::Pdu;
 use fed_json::{Items, Json, JsonRef, NoMemory, canonical};
-use fed_room_contract::{Graph, State};
 use std::alloc::Global;
 
 /// The servers that an event goes to (Server-Server API, "PDUs"), by the state before it: the canonical text of an array of those of `servers`,
-/// in their order, that have a user who is joined, without the own one. The entries of the state are looked at once for each server.
+/// in their order, that have a user who is joined, without the own one. The events of the state are looked at once for each server.
 ///
-/// `events` is an array of the room's events, each behind those that it names, `state` one of the ids of those that hold before the event, and
-/// `servers` one of the names of servers.
+/// `state` is an array of the events that hold before the event, of which the member events are enough, and `servers` one of the names of servers.
 ///
-/// Returns `NotJson` and `NotCanonical` where an array has no value; `BadServers`, `BadEvents` and `BadState`.
+/// Returns the first of these faults: of `servers`, `NotJson`, `NotCanonical` and `BadServers`; of `state`, `NotJson`, `NotCanonical`, `BadEvents`
+/// where it is no array of events, and `BadState` where one is no state event or two stand at one type and state key.
 #[unsafe(no_mangle)]
 pub extern "C" fn wikzord_destinations(
     alloc: Global,
-    events: &[u8],
     state: &[u8],
     servers: &[u8],
     own: &[u8],
@@ -39,26 +38,25 @@ pub extern "C" fn wikzord_destinations(
     needed: &mut usize,
 ) -> u32
     ensures gives { (names : List (List ℕ)) → AreServers (value_of servers.now) names
-        → Gives (destinations_answer (value_of events.now) (value_of state.now) names own.now) result
+        → Gives (destinations_answer (value_of state.now) names own.now) result
         (record { before = out.old; after = out.new; told_before = needed.old; told = needed.new }) }
     ensures refuses { ((names : List (List ℕ)) → ¬ AreServers (value_of servers.now) names)
         → Gives (Err (servers_fault (value_of servers.now))) result
         (record { before = out.old; after = out.new; told_before = needed.old; told = needed.new }) }
 {
-    let answer = destinations(alloc, events, state, servers, own);
-    give(answer, out, needed)
+    give(destinations(alloc, state, servers, own), out, needed)
 }
 
-fn destinations(alloc: Global, events: &[u8], ids: &[u8], servers: &[u8], own: &[u8]) -> Answer
+fn destinations(alloc: Global, state: &[u8], servers: &[u8], own: &[u8]) -> Answer
     ensures ok { (names : List (List ℕ)) → AreServers (value_of servers.now) names
-        → IfOk result (λ bytes. destinations_answer (value_of events.now) (value_of ids.now) names own.now ≡ Ok bytes.items) }
+        → IfOk result (λ bytes. destinations_answer (value_of state.now) names own.now ≡ Ok bytes.items) }
     ensures fault { (names : List (List ℕ)) → AreServers (value_of servers.now) names
-        → IfErr result (λ status. status ≢ Memory → destinations_answer (value_of events.now) (value_of ids.now) names own.now ≡ Err status) }
+        → IfErr result (λ status. status ≢ Memory → destinations_answer (value_of state.now) names own.now ≡ Err status) }
     ensures none { ((names : List (List ℕ)) → ¬ AreServers (value_of servers.now) names)
         → IsErrAnd result (λ status. status ≢ Memory → servers_fault (value_of servers.now) ≡ status) }
 {
     let servers = servers_of(alloc, servers)?;
-    by_servers(alloc, events, ids, &servers, own)
+    by_servers(alloc, state, &servers, own)
 }
 
 // The servers of an array of names.
@@ -107,35 +105,28 @@ fn name_of(alloc: Global, value: JsonRef<'_>) -> Result<ServerName, Status>
 }
 
 // The answer by the servers.
-fn by_servers(
-    alloc: Global,
-    events: &[u8],
-    ids: &[u8],
-    servers: &[ServerName],
-    own: &[u8],
-) -> Answer
-    ensures ok { IfOk result (λ bytes. destinations_answer (value_of events.now) (value_of ids.now) servers.now own.now ≡ Ok bytes.items) }
-    ensures fault { IfErr result (λ status. status ≢ Memory → destinations_answer (value_of events.now) (value_of ids.now) servers.now own.now ≡ Err status) }
+fn by_servers(alloc: Global, state: &[u8], servers: &[ServerName], own: &[u8]) -> Answer
+    ensures ok { IfOk result (λ bytes. destinations_answer (value_of state.now) servers.now own.now ≡ Ok bytes.items) }
+    ensures fault { IfErr result (λ status. status ≢ Memory → destinations_answer (value_of state.now) servers.now own.now ≡ Err status) }
 {
-    let graph = history(alloc, events, &Json::empty_array(alloc))?;
-    let state = state(alloc, ids, &graph)?;
-    let names = sent_to(alloc, &graph, &state, servers, own)?;
+    let held = state_events(alloc, state)?;
+    let _state = made_of(alloc, &held)?;
+    let names = sent_to(alloc, &held, servers, own)?;
     Ok(canonical(alloc, &names)?)
 }
 
 // The names of those of these servers that an event goes to.
 fn sent_to(
     alloc: Global,
-    graph: &Graph,
-    state: &State,
+    held: &[Pdu],
     servers: &[ServerName],
     own: &[u8],
 ) -> Result<Json, NoMemory>
-    ensures { IfOk result (λ json. json ≡ texts_value (sent_to graph.now.stored state.now servers.now own.now)) }
+    ensures { IfOk result (λ json. json ≡ texts_value (sent_to held.now servers.now own.now)) }
 {
     let mut names = Json::empty_array(alloc);
     for server in servers {
-        if is_joined(alloc, graph, state, server)? && server.as_str().as_bytes() != own {
+        if is_joined(held, server) && server.as_str().as_bytes() != own {
             names.push(Json::from(String::from_str(alloc, server.as_str())?))?;
         }
     }
@@ -143,18 +134,8 @@ fn sent_to(
 }
 
 // Whether some user of a server is joined.
-fn is_joined(
-    alloc: Global,
-    graph: &Graph,
-    state: &State,
-    server: &ServerName,
-) -> Result<bool, NoMemory>
-    ensures { IfOk result (λ joined. joined ≡ is_joined graph.now.stored state.now server.now) }
+fn is_joined(held: &[Pdu], server: &ServerName) -> bool
+    ensures { result ≡ list_any (joins_server server.now) held.now }
 {
-    let mut names = Vec::new(alloc);
-    add(&mut names, server.copy(alloc)?)?;
-    match fed_dest::List::new(names) {
-        Ok(one) => Ok(joined_servers(alloc, graph, state, &one)?.contains(ServerIndex::new(0))),
-        Err(_) => unreachable!(),
-    }
+    held.iter().any(|event| joins_server(event, server))
 }

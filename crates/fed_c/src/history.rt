@@ -1,4 +1,4 @@
-//! The events of a room as a JSON array gives them.
+//! Events of a room as a JSON array gives them, each behind its auth events.
 ghost use Rattle.std.specs.Prelude.{◌≡◌, ◌≢◌, None, Ok, Err, IsSome, IfOk, IfErr, OnOk};
 ghost use Rattle.fed_event.specs.Tests.{first_fault_of};
 ghost use Rattle.fed_json.specs.Items.{left};
@@ -20,7 +20,7 @@ use std::alloc::Global;
 /// # Errors
 ///
 /// `NotJson` and `NotCanonical`; `BadEvents` where the value is no array of events, each signed by its sender's server, as far as can be
-/// seen without keys, each another one than those before it, and each one that names only those. `Memory` where memory ran out.
+/// seen without keys, each another one than those before it, and each one whose auth events are among those. `Memory` where memory ran out.
 pub(crate) fn history(alloc: Global, events: &[u8], rejected: &Json) -> Result<Graph, Status>
     ensures ok { IfOk result (λ graph. history_in rejected.now (value_of events.now) ≡ Ok graph.stored) }
     ensures fault { IfErr result (λ status. status ≢ Memory → history_in rejected.now (value_of events.now) ≡ Err status) }
@@ -83,7 +83,7 @@ fn store(alloc: Global, graph: &mut Graph, event: Checked, rejected: &Json) -> R
     if graph.contains(id) {
         return Err(Status::BadEvents);
     }
-    if !graph.is_ready(event.event()) {
+    if !graph.has_auths(event.event()) {
         return Err(Status::BadEvents);
     }
     let verdict = verdict_by(rejected, id);

@@ -19,8 +19,9 @@ use std::alloc::Global;
 /// The state that several states of a room resolve to (room version 2, "State resolution"): the canonical text of an array of the ids of its
 /// events, in the order of their types and, within a type, of their state keys.
 ///
-/// `events` is an array of the room's events, each behind those that it names; `rejected` one of the ids of those that were rejected, in which an
-/// id of none of `events` counts for nothing; and `states` an array of states, each an array of the ids of its events.
+/// `events` is an array of events of the room, each behind its auth events: those of the states and of their auth chains are enough, and prev events
+/// need not stand there. `rejected` is one of the ids of those that were rejected, in which an id of none of `events` counts for nothing; and `states`
+/// is an array of states, each an array of the ids of its events.
 ///
 /// Returns the first of these faults: of `rejected`, `NotJson`, `NotCanonical` and `BadIds`; of `events`, `NotJson`, `NotCanonical` and
 /// `BadEvents`; of `states`, `NotJson`, `NotCanonical` and `BadState`.

@@ -15,25 +15,12 @@ use fed_json::{Items, JsonRef, NoMemory};
 use fed_room_contract::{Graph, State};
 use std::alloc::Global;
 
-/// The state that the events of an array of ids make.
+/// The states of an array, each an array of the ids of its events.
 ///
 /// # Errors
 ///
-/// `NotJson` and `NotCanonical`; `BadState` where the value is no array of ids, or one of them is of no state event that is stored, or of one
-/// at the type and state key of another. `Memory` where memory ran out.
-pub(crate) fn state(alloc: Global, ids: &[u8], graph: &Graph) -> Result<State, Status>
-    ensures ok { IfOk result (λ state. and_then (value_of ids.now) (state_in graph.now.stored) ≡ Ok state) }
-    ensures fault { IfErr result (λ status. status ≢ Memory → and_then (value_of ids.now) (state_in graph.now.stored) ≡ Err status) }
-{
-    let json = value(alloc, ids)?;
-    state_in(alloc, json.root(), graph)
-}
-
-/// The states of an array, each as `state` has it.
-///
-/// # Errors
-///
-/// Those of `state`.
+/// `NotJson` and `NotCanonical`; `BadState` where the value is no array of arrays of ids, or an id is of no state event that is stored, or of one at
+/// the type and state key of another in its state. `Memory` where memory ran out.
 pub(crate) fn states(alloc: Global, states: &[u8], graph: &Graph) -> Result<Vec<State>, Status>
     ensures ok { IfOk result (λ list. and_then (value_of states.now) (states_in graph.now.stored) ≡ Ok list.items) }
     ensures fault { IfErr result (λ status. status ≢ Memory → and_then (value_of states.now) (states_in graph.now.stored) ≡ Err status) }

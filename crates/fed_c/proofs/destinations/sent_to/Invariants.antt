@@ -6,4 +6,4 @@ use Rattle.fed_c.proofs.destinations.sent_to.Given as goal
 
 -- what is left completes the array
 abbrev pub invariant-loop-server : goal.invariant-loop-server
-invariant-loop-server l = texts_value (sent_to l.graph.stored l.state l.servers l.own) ≡ with_items l.names (map string (sent_to l.graph.stored l.state (drop l.server-index l.servers) l.own))
+invariant-loop-server l = texts_value (sent_to l.held l.servers l.own) ≡ with_items l.names (map string (sent_to l.held (drop l.server-index l.servers) l.own))
