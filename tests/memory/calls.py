@@ -4,8 +4,8 @@
     tests/memory/calls.py [PROGRAM]
 
 The calls are a transaction that is written, an inbox over each store of replies, one that is asked for another path, an outbox of 120 events and 30
-EDUs, a request that is read in pieces, and a room that receives events, lets them wait and stores what is ready; of a room with a thousand that wait, for
-which a run takes long, only the last hundred allocations are refused. The program makes an operation that memory runs out for once more, and tells
+EDUs, a request that is read in pieces, and rooms that receive events, let them wait and store what is ready, and that make events of drafts; of a room
+with a thousand that wait, for which a run takes long, only the last hundred allocations are refused. The program makes an operation that memory runs out for once more, and tells
 what was to be seen in between (docs/VECTORS.md, "Lines"). It fails unless in each run
 
 - the call answers `out of memory`, or the program ends so, where it has none for the line or for what it prints; or
@@ -236,6 +236,24 @@ def room():
     return RoomCall(of, "operations", operations, answers, None), waiting
 
 
+def drafts():
+    """A room that makes an event of a draft, and another one that is not stored; and stores all that is ready of two events that come late."""
+    create, at_create = event("m.room.create", {"creator": "@u:a", "room_version": "10"}, {"creator": "@u:a"}, [], [], state_key="")
+    join, at_join = event("m.room.member", {"membership": "join"}, {"membership": "join"}, [at_create], [at_create], state_key="@u:a")
+    auths = [at_create, at_join]
+    draft = lambda number: {"room": "!r:a", "sender": "@u:a", "kind": "m.x", "content": {"n": number}, "at_ms": number}
+    _, at_sent = event("m.x", {"n": 1}, {}, auths, [at_join], depth=2)
+    _, at_prepared = event("m.x", {"n": 2}, {}, auths, [at_sent], depth=3, origin_server_ts=2)
+    before, at_before = event("m.x", {"n": 3}, {}, auths, [at_sent])
+    late, at_late = event("m.x", {"n": 4}, {}, auths, [at_before])
+    of = {"call": "room", "events": [create, join], "keys": "trusting", "own": "a"}
+    operations = [{"send": draft(1)}, {"prepare": draft(2)}, {"receive": late}, {"receive": before}, {"advance_all": True}, {"extremities": True}]
+    told = [(at_sent, 3, []), (at_prepared, 3, []), ("waiting", 3, [at_late]), ("accepted", 4, [at_late]), (1, 5, []), ([at_late], 5, [])]
+    stored = [[it, "accepted"] for it in (*auths, at_sent, at_before, at_late)]
+    answers = [{"answer": it, "dropped": 0, "stored": stored[:count], "waiting": waits} for it, count, waits in told]
+    return RoomCall(of, "operations", operations, answers, None)
+
+
 def main():
     path = pathlib.Path(sys.argv[1] if len(sys.argv) > 1 else VECTORS / "out" / "fed_vectors").resolve()
     with tempfile.TemporaryDirectory() as folder:
@@ -254,11 +272,12 @@ def main():
             sys.exit("a request: no run fed a reader once more")
         call, ((few, told_of_few), (many, told_of_many)) = room()
         takes_memory(program, call, [0, 1, 2])
+        takes_memory(program, drafts(), [0, 1, 2, 3, 4])
         if not made_once_more(program, "a room in which events wait", few, told_of_few):
             sys.exit("a room: no run gave it an event once more")
         # What is dropped takes no memory, and is seen among the last allocations.
         made_once_more(program, "a full room", many, told_of_many, newest=100)
-        print(f"{program.runs} runs: each allocation of a transaction, inboxes, an outbox, a request and a room refused")
+        print(f"{program.runs} runs: each allocation of a transaction, inboxes, an outbox, a request and rooms refused")
 
 
 if __name__ == "__main__":
