@@ -19,10 +19,10 @@ use std::marker::Model;
 /// - Of chunks the extensions are dropped, and so is the trailer, whose limits are those of a head (section 7.1). A chunk line has at
 ///   most `MAX_HEAD` bytes. A body has at most `MAX_BODY`.
 ///
-/// Of the bytes since the last message it keeps the head so far, and once this is whole only its parts, as a message has them; the body so
-/// far; and a chunk line or a trailer that has not ended. `held` says how many bytes these are. One that has failed keeps no memory. It looks at each byte a few times, in whatever
-/// pieces they come, and at none past a limit. For a body in chunks it takes memory for as many bytes as the piece has, or for as many as the
-/// body may still have, if these are fewer.
+/// Of the bytes since the last message it keeps the head so far, and once this is whole only its parts, as a message has them; the body so far;
+/// and a chunk line or a trailer that has not ended. `held` says how many bytes these are. One that has failed keeps no memory. It looks at each
+/// byte a few times, in whatever pieces they come, and at none past a limit. For a body in chunks it takes memory for as many bytes as the piece
+/// has, or for as many as the body may still have, if these are fewer.
 ///
 /// Contracts say of what it is given by the bytes that it stands for: those since it was made, or since it last gave a message. Some such
 /// bytes there are until it has failed.
