@@ -9,8 +9,8 @@ these runs all lines are told as is written here, but for at most one; and that 
 
 - is empty, or the beginning of a report, where there was no memory for what is told; or is the last, where the script's own thread had none to read
   the next line; or
-- tells that memory ran out (a request is answered by 500): then what the board shows is as before, and the same asked again tells what is written,
-  as do all lines behind it, with what the hubs report at their ends;
+- tells that memory ran out (a request is answered by 500): then all that a hub shows is as before, the board, each room and the inbox, and the same
+  asked again tells what is written, as do all lines behind it, with what the hubs report at their ends;
 
 or where a call of a hub that takes memory told of it in no run. Without a refusal no call tells that memory ran out.
 """
@@ -30,16 +30,18 @@ PLAY = HERE.parent.parent / "crates" / "fed_hub_play"
 WRONG_LINE = re.compile(r"fed_hub_play: line \d+: wrong words\n")
 
 # What is told where memory ran out, in the call or in what the script's own threads make for it.
-REFUSED = {"refused out of memory", "no memory", "not finished: out of memory", "bad content", "unknown server"}
+REFUSED = {"refused out of memory", "no memory", "not finished: out of memory", "answered 500", "bad content", "unknown server"}
 
-# The calls that take memory, and whether each answers a want of it itself: what a thread takes of a request is answered by 500, and brought again.
-CALLS = {"send", "edu", "shut", "drain", "turns", "store", "finish"}
+# The calls that take memory.
+CALLS = {"send", "edu", "shut", "drain", "turns", "store", "bring", "finish"}
+
+# The calls that only read.
+READING = ("delivered", "shown")
 
 # How many allocations, one after another, one worker refuses, and how many runs may be made again.
 TURN, MOST_AGAIN = 50, 10
 
-# A command, and what it tells. The beginning, up to `rest`, tells nothing. A hub is shut down twice where a thread then goes on until it is: the first
-# time may be refused.
+# A command, and what it tells, if it tells anything. A hub is shut down twice where a thread then goes on until it is: the first time may be refused.
 SCRIPTS = {
     "two clients send, and an outbox is closed": """
 servers a b c
@@ -47,6 +49,8 @@ paper b c
 clients a 2
 room !r:a @u:a @v:b @w:c
 rest 30
+shown a !r:a b > stored 6, waiting 0, dropped 0, extremities 1, inputs 0, requests 0, taken 0
+delivered a b > delivered 0
 send a/1 !r:a @u:a m.x - {} > sent 1
 send a/2 !r:a @u:a m.x - {} > sent 2
 edu a/2 m.x b,c {} > edu 1
@@ -72,6 +76,7 @@ rest 30
 send a !r:a @u:a m.x - {} > sent 1
 edu a m.x b {"n":1} > edu 1
 send a !r:a @u:a m.x - {} > sent 2
+shown a !r:a b > stored 7, waiting 0, dropped 0, extremities 1, inputs 2, requests 0, taken 0
 shut a > shut down
 shut a > shut down
 turns a b max > drained
@@ -88,6 +93,32 @@ report a b > b: 2 of 2 events, 1 edus, the end
 report a !r:a > !r:a: received 0, of 2 inputs
 report b taken a > taken a: 2
 report b !r:a > !r:a: received 2, of 2 inputs
+""",
+    "what comes is answered, waits and is stored": """
+servers a b
+paper b
+room !r:a @u:a @v:b
+made b !r:a @v:b 3 > made 3
+pack later b a 1 !r:a 3 3
+pack first b a 2 !r:a 1 1
+rest 30
+bring a later > answered 200
+shown a !r:a b > stored 5, waiting 0, dropped 0, extremities 1, inputs 0, requests 1, taken 1
+bring a later > answered 200
+bring a first > answered 200
+shown a !r:a b > stored 5, waiting 0, dropped 0, extremities 1, inputs 0, requests 3, taken 2
+shut a > shut down
+shut a > shut down
+store a !r:a 1 > turns spent
+shown a !r:a b > stored 5, waiting 1, dropped 0, extremities 1, inputs 1, requests 3, taken 2
+store a !r:a 1 > turns spent
+shown a !r:a b > stored 6, waiting 1, dropped 0, extremities 1, inputs 2, requests 3, taken 2
+store a !r:a 1 > drained
+drain a b > closed
+finish a > finished
+report a requests > requests: 3
+report a taken b > taken b: 2
+report a !r:a > !r:a: received 2, of 2 inputs
 """,
 }
 
@@ -117,8 +148,17 @@ class Hubs:
     def __init__(self, program, name, script):
         self.program, self.name, self.again = program, name, []
         self.commands, self.told = steps_of(script)
-        self.first = next(place for place, told in enumerate(self.told) if told is not None)
-        self.boards = tuple(it for it in dict.fromkeys(self.commands) if it.startswith("delivered "))
+        self.telling = [place for place, told in enumerate(self.told) if told is not None]
+        self.readings = tuple(it for it in dict.fromkeys(self.commands) if it.startswith(READING))
+
+    def written(self, first=0, last=None):
+        """What is told by the commands from one place to another, where none is refused."""
+        return [told for told in self.told[first:last] if told is not None]
+
+    def readings_at(self, place):
+        """The calls that read of those hubs that have not ended before the command at a place."""
+        ended = {command.split()[1] for command in self.commands[:place] if command.startswith("finish ")}
+        return tuple(it for it in self.readings if it.split()[1] not in ended)
 
     def fail(self, thread, at, why, *more):
         raise Wrong(f"{self.name}: allocation {at} of thread {thread}: {why}: {more}")
@@ -130,7 +170,7 @@ class Hubs:
         """How many allocations each thread makes where none is refused, and all is told as is written."""
         path = self.program.folder / "counts"
         lines, status, told, _ = self.run(self.commands, "0", 0, REFUSE_COUNTS=str(path))
-        if (lines, status, told) != ([it for it in self.told if it is not None], 0, ""):
+        if (lines, status, told) != (self.written(), 0, ""):
             sys.exit(f"{self.name}: with all memory: status {status}, {lines}, {told!r}")
         return [(name, int(count)) for name, count, *_ in map(str.split, path.read_text().splitlines())]
 
@@ -157,7 +197,7 @@ class Hubs:
 
     def refused(self, thread, at):
         """The place of the command that told that memory ran out, if one did, in a run that is right."""
-        want = [it for it in self.told if it is not None]
+        want = self.written()
         lines, status, told, was_refused = self.run(self.commands, thread, at)
         if not was_refused:
             self.fail(thread, at, "it was not made")
@@ -167,7 +207,7 @@ class Hubs:
         places = [place for place, line in enumerate(lines) if line != want[place]]
         if not places:
             return None
-        answer, place = lines[places[0]], self.first + places[0]
+        answer, place = lines[places[0]], self.telling[places[0]]
         command = self.commands[place]
         if len(places) == 1 and (answer == "" or command.startswith("report ") and want[places[0]].startswith(answer)):
             return None
@@ -180,20 +220,21 @@ class Hubs:
 
     def is_asked_again(self, thread, at, place):
         """Whether the command at a place tells that memory ran out, and all else is as is written where it is asked once more."""
-        boards = () if self.commands[place].startswith("finish ") else self.boards
-        lines, status, told, refused = self.run((*self.commands[: place + 1], *boards, *self.commands[place:]), thread, at)
-        mine = place - self.first
+        readings, before = self.readings_at(place), self.written(0, place)
+        lines, status, told, refused = self.run((*self.commands[: place + 1], *readings, *self.commands[place:]), thread, at)
+        mine = len(before)
         if status != 0 or told or not refused or len(lines) <= mine or lines[mine] not in REFUSED:
             return False
-        return lines[:mine] + lines[mine + 1 :] == [*self.told[self.first : place], *self.board_before(place, boards), *self.told[place:]]
+        return lines[:mine] + lines[mine + 1 :] == [*before, *self.read_before(place), *self.written(place)]
 
     @functools.lru_cache(maxsize=None)
-    def board_before(self, place, boards):
-        """What the board shows before the command at a place."""
-        if not boards:
+    def read_before(self, place):
+        """What the calls that read tell before the command at a place."""
+        readings = self.readings_at(place)
+        if not readings:
             return ()
-        lines = self.run((*self.commands[:place], *boards, *self.commands[place:]), "0", 0)[0]
-        return tuple(lines[place - self.first :][: len(boards)])
+        lines = self.run((*self.commands[:place], *readings, *self.commands[place:]), "0", 0)[0]
+        return tuple(lines[len(self.written(0, place)) :][: len(readings)])
 
 
 def main():

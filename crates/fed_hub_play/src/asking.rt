@@ -55,7 +55,7 @@ pub(crate) fn order_in(
 ) -> Option<Asked> {
     match word {
         "send" | "sends" | "edu" => asked_of_client(alloc, scene, word, words),
-        "close" | "shut" | "delivered" | "stored" | "look" => {
+        "close" | "shut" | "delivered" | "stored" | "shown" | "look" => {
             asked_of_lead(alloc, scene, papers, word, words)
         }
         "collect" | "drain" | "turns" | "deliver" | "carry" | "asked" | "brought" => {
@@ -177,6 +177,10 @@ fn asked_of_lead(
                 ids: papers.ids(alloc, words.word()?, room)?,
             }
         }
+        "shown" => Order::Show {
+            room: text(alloc, words.word()?)?,
+            origin: text(alloc, words.word()?)?,
+        },
         _ => Order::Look {
             until: text(alloc, words.word()?)?,
         },

@@ -1,6 +1,7 @@
 // What the thread does that leads a hub: it asks what needs no token, and looks at the board.
 use crate::cast::Cast;
 use crate::order::{Desk, Order};
+use crate::shown::shown;
 use crate::texts::close_fault_text;
 use fed_event::StandIn;
 use fed_hub::{Hub, Naming, Seat, ServingNaming};
@@ -48,6 +49,7 @@ fn told_of<N: Naming + ServingNaming, R: Wait + Clock>(
         Order::ShutDown => Some(shut_down(rt, alloc, hub)),
         Order::Delivered { dest } => Some(delivered(alloc, hub, readers, &dest)),
         Order::CountStored { room, ids } => Some(stored(rt, alloc, hub, &room, &ids)),
+        Order::Show { room, origin } => Some(shown(rt, alloc, hub, &room, &origin)),
         Order::Look { until } => Some(look(cast, hub, &until)),
         _ => Some(String::from_str(alloc, "not for a lead")),
     }

@@ -11,7 +11,7 @@
 //! - `hubs`: the hub of one server; `cast`: its threads, of which `leading`, `clients`, `senders`, `rooms` and `serving` have what each does
 //! - `carrier`, `exchange`, `gate`, `dice`: what brings requests, as a script says, and a clock
 //! - `paper`, `packs`: servers without a hub, and the requests that they make
-//! - `texts`, `reports`: what is told
+//! - `texts`, `reports`, `shown`: what is told
 #![tactic(auto)]
 
 mod asking;
@@ -36,6 +36,7 @@ mod script;
 mod senders;
 mod serving;
 mod setups;
+mod shown;
 mod texts;
 mod words;
 

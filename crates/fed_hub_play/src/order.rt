@@ -23,6 +23,8 @@ pub(crate) enum Order {
     Delivered { dest: String },
     /// How many events of these ids a room has is counted.
     CountStored { room: String, ids: Vec<String> },
+    /// What a room and the inbox show is told.
+    Show { room: String, origin: String },
     /// The lock of the inbox is looked at, until a count is reached.
     Look { until: String },
     /// Parcels are collected, so many at most.
