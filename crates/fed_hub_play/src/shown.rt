@@ -37,7 +37,13 @@ pub(crate) fn shown<N: Naming + ServingNaming, R: Wait>(
     let inbox = inbox_shown(rt, hub, origin);
     format!(in alloc;
         "stored {}, waiting {}, dropped {}, extremities {}, inputs {}, requests {}, taken {}",
-        room.stored, room.waiting, room.dropped, room.extremities, room.inputs, inbox.requests, inbox.taken
+        room.stored,
+        room.waiting,
+        room.dropped,
+        room.extremities,
+        room.inputs,
+        inbox.requests,
+        inbox.taken
     )
 }
 
