@@ -9,8 +9,9 @@ these runs all lines are told as is written here, but for at most one; and that 
 
 - is empty, or the beginning of a report, where there was no memory for what is told; or is the last, where the script's own thread had none to read
   the next line; or
-- tells that memory ran out (a request is answered by 500): then all that a hub shows is as before, the board, each room and the inbox, and the same
-  asked again tells what is written, as do all lines behind it, with what the hubs report at their ends;
+- tells that memory ran out (a request is answered by 500): then all that the hubs show is as before, the boards, each room and the inboxes, or, where a
+  thread that sends was refused, as before or as behind the call; and the same asked again tells what is written, as do all lines behind it, with what
+  the hubs report at their ends;
 
 or where a call of a hub that takes memory told of it in no run. Without a refusal no call tells that memory ran out.
 """
@@ -34,9 +35,6 @@ REFUSED = {"refused out of memory", "no memory", "not finished: out of memory", 
 
 # The calls that take memory.
 CALLS = {"send", "edu", "shut", "drain", "turns", "store", "bring", "finish"}
-
-# The calls that only read.
-READING = ("delivered", "shown")
 
 # How many allocations, one after another, one worker refuses, and how many runs may be made again.
 TURN, MOST_AGAIN = 50, 10
@@ -83,6 +81,8 @@ turns a b max > drained
 delivered a b > delivered 2
 shut b > shut down
 shut b > shut down
+store b !r:a 1 > turns spent
+store b !r:a 1 > turns spent
 store b !r:a max > drained
 drain b a > closed
 finish a > finished
@@ -149,7 +149,10 @@ class Hubs:
         self.program, self.name, self.again = program, name, []
         self.commands, self.told = steps_of(script)
         self.telling = [place for place, told in enumerate(self.told) if told is not None]
-        self.readings = tuple(it for it in dict.fromkeys(self.commands) if it.startswith(READING))
+        named = lambda word: [command.split()[1:] for command in self.commands if command.split()[0] == word]
+        servers, papers, rooms = named("servers")[0], sum(named("paper"), []), [words[0] for words in named("room")]
+        pairs = [(hub, other) for hub in servers if hub not in papers for other in servers if other != hub]
+        self.readings = [f"delivered {hub} {other}" for hub, other in pairs] + [f"shown {hub} {room} {other}" for hub, other in pairs for room in rooms]
 
     def written(self, first=0, last=None):
         """What is told by the commands from one place to another, where none is refused."""
@@ -222,10 +225,15 @@ class Hubs:
         """Whether the command at a place tells that memory ran out, and all else is as is written where it is asked once more."""
         readings, before = self.readings_at(place), self.written(0, place)
         lines, status, told, refused = self.run((*self.commands[: place + 1], *readings, *self.commands[place:]), thread, at)
-        mine = len(before)
+        mine, behind = len(before), len(before) + 1 + len(readings)
         if status != 0 or told or not refused or len(lines) <= mine or lines[mine] not in REFUSED:
             return False
-        return lines[:mine] + lines[mine + 1 :] == [*before, *self.read_before(place), *self.written(place)]
+        if lines[:mine] + lines[behind:] != [*before, *self.written(place)]:
+            return False
+        shown, was = lines[mine + 1 : behind], self.read_before(place)
+        if self.commands[place].startswith("turns "):
+            return all(it in pair for it, pair in zip(shown, zip(was, self.read_before(place + 1), strict=True), strict=True))
+        return tuple(shown) == was
 
     @functools.lru_cache(maxsize=None)
     def read_before(self, place):
