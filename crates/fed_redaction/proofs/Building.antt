@@ -1,5 +1,5 @@
 -- Members that rise, put into an object one after another.
-use Rattle.std.proofs.Common.{◌≡◌, ℕ, List, Bool, true, false, ◌&&◌, cond, Ordering, Less, Equal, Greater, nat_cmp, refl, sym, ◌∙◌, ap, subst}
+use Rattle.std.proofs.Common.{◌≡◌, ℕ, List, Bool, true, false, ◌&&◌, cond, Option, Some, None, Ordering, Less, Equal, Greater, nat_cmp, refl, sym, ◌∙◌, ap, subst}
 use Rattle.std.proofs.lemmas.Bool.{and_parts}
 use Rattle.std.proofs.lemmas.Cmp.{nat_list_cmp_total}
 use Rattle.std.proofs.lemmas.Str.{IsUtf8-from_is_utf8}
@@ -8,12 +8,12 @@ use Rattle.std.specs.Cmp.Lexicographic.{slice_cmp}
 use Rattle.std.specs.Str.{is_utf8}
 use Rattle.serde_json.specs.Data.{Data, object, Members, no_members, member, put}
 use Rattle.fed_json.specs.Profile.{keys_rise, members_rise, comes_before_first}
-use Rattle.fed_json.specs.Editing.{with_member}
 use Rattle.fed_json.proofs.KeyOrder.{chars_order}
 use Rattle.fed_json.specs.Tree.{members_view}
 use Rattle.fed_json.specs.Members.{members_left}
 use Rattle.fed_json.specs.declared.members.Members.{Members as Left}
-use Rattle.fed_redaction.specs.Names.{select, at_name, members_of}
+use Rattle.fed_redaction.specs.Names.{select, member_if, keep, at_name, members_of}
+use Rattle.fed_redaction.specs.TextsParts.{put_all}
 use Rattle.fed_redaction.proofs.Parts.{members_of-pairs_of}
 
 -- ---- keys in the order of their bytes
@@ -80,11 +80,23 @@ pub Rises-at_name : (n : List ℕ) (f : Data → Data) (ms : Members) → Rises 
 Rises-at_name n f no_members h = tt
 Rises-at_name n f (member k d ms) h = (below_at_name n f k ms h.0, Rises-at_name n f ms h.1)
 
--- ---- put in one after another
+below_if : (o : Option Data) (k l : List ℕ) (ms : Members) → comes_first k l → IsBelow k ms → IsBelow k (member_if l o ms)
+below_if None k l ms h p = p
+below_if (Some d) k l ms h p = (h, p)
 
-abbrev pub put_all : Members → Data → Data
-put_all no_members d = d
-put_all (member k v ms) d = put_all ms (with_member k v d)
+below_keep : (f : List ℕ → Data → Option Data) (k : List ℕ) (ms : Members) → IsBelow k ms → IsBelow k (keep f ms)
+below_keep f k no_members h = tt
+below_keep f k (member l e ms) h = below_if (f l e) k l (keep f ms) h.0 (below_keep f k ms h.1)
+
+rises_if : (o : Option Data) (k : List ℕ) (ms : Members) → IsBelow k ms → Rises ms → Rises (member_if k o ms)
+rises_if None k ms h p = p
+rises_if (Some d) k ms h p = (h, p)
+
+pub Rises-keep : (f : List ℕ → Data → Option Data) (ms : Members) → Rises ms → Rises (keep f ms)
+Rises-keep f no_members h = tt
+Rises-keep f (member k d ms) h = rises_if (f k d) k (keep f ms) (below_keep f k ms h.0) (Rises-keep f ms h.1)
+
+-- ---- put in one after another
 
 join : Members → Members → Members
 join no_members ms = ms

@@ -4,7 +4,8 @@ use Rattle.serde_json.specs.Data.{Data, null, boolean, number, string, array, ob
 use Rattle.serde_json.specs.Find.{as_object}
 use Rattle.std.specs.Prelude.{is_some}
 use Rattle.fed_redaction.specs.Names.{is_one_of, leave_out}
-use Rattle.fed_redaction.specs.Redaction.{redacted}
+use Rattle.fed_redaction.specs.declared.version.Version.{Version}
+use Rattle.fed_redaction.specs.Redaction.{redacted_in}
 use Rattle.fed_redaction.specs.ContentHash.{uncovered_keys, covered_part}
 use Rattle.fed_redaction.specs.Laws.{AreUncovered}
 use Rattle.fed_redaction.proofs.Selecting.{select-same, select-select}
@@ -23,10 +24,10 @@ covered_part-leave_out names (object ms) h =
     ap object (select-select (λ k. not (is_one_of uncovered_keys k)) (λ k. not (is_one_of names k)) ms
     ∙ select-same (λ k. not (is_one_of names k) && not (is_one_of uncovered_keys k)) (λ k. not (is_one_of uncovered_keys k)) (λ k. both (is_one_of names k) (is_one_of uncovered_keys k) (h k)) ms)
 
-pub object-redacted : (d : Data) → is_some (as_object (redacted d)) ≡ is_some (as_object d)
-object-redacted null = refl
-object-redacted (boolean b) = refl
-object-redacted (number n) = refl
-object-redacted (string s) = refl
-object-redacted (array ds) = refl
-object-redacted (object ms) = refl
+pub object-redacted : (version : Version) (d : Data) → is_some (as_object (redacted_in version d)) ≡ is_some (as_object d)
+object-redacted version null = refl
+object-redacted version (boolean b) = refl
+object-redacted version (number n) = refl
+object-redacted version (string s) = refl
+object-redacted version (array ds) = refl
+object-redacted version (object ms) = refl

@@ -6,7 +6,7 @@ use Rattle.std.specs.Ordering.{match_ordering}
 use Rattle.std.specs.Cmp.Lexicographic.{slice_cmp}
 use Rattle.serde_json.specs.Data.{Data, Members, no_members, member}
 use Rattle.serde_json.specs.Find.{get_member}
-use Rattle.fed_redaction.specs.Names.{select, at_name}
+use Rattle.fed_redaction.specs.Names.{select, member_if, keep, at_name}
 
 pub ap_cond : {X Y : Type 0} (f : X → Y) (b : Bool) (x y : X) → f (cond b x y) ≡ cond b (f x) (f y)
 ap_cond f true x y = refl
@@ -105,3 +105,54 @@ not_name k n other = by (bytes_eq k n) refl
 pub get_member-other : (n : List ℕ) (f : Data → Data) (k : List ℕ) (ms : Members) → k ≢ n → get_member k (at_name n f ms) ≡ get_member k ms
 get_member-other n f k ms other =
     get_member-at_name n f k ms ∙ option_map-same (λ d. cond (bytes_eq k n) (f d) d) (get_member k ms) (λ d. ap (λ b. cond b (f d) d) (not_name k n other))
+
+-- ---- what a test leaves
+
+-- a value that is left is left again as it is
+abbrev pub LeavesAgain : (List ℕ → Data → Option Data) → Type 0
+LeavesAgain f = (k : List ℕ) (d e : Data) → f k d ≡ Some e → f k e ≡ Some e
+
+keep_if : (f : List ℕ → Data → Option Data) (k : List ℕ) (o : Option Data) (ms : Members) → ((e : Data) → o ≡ Some e → f k e ≡ Some e)
+    → keep f (member_if k o ms) ≡ member_if k o (keep f ms)
+keep_if f k None ms h = refl
+keep_if f k (Some e) ms h = ap (λ o. member_if k o (keep f ms)) (h e refl)
+
+pub keep_twice : (f : List ℕ → Data → Option Data) → LeavesAgain f → (ms : Members) → keep f (keep f ms) ≡ keep f ms
+keep_twice f again no_members = refl
+keep_twice f again (member k d ms) = keep_if f k (f k d) (keep f ms) (again k d) ∙ ap (member_if k (f k d)) (keep_twice f again ms)
+
+not_left : (o : Ordering) (d : Option Data) (e : Data) → (is_eq o ≡ true → ◌≡◌ {A = Option Data} None (Some e)) → d ≡ match_ordering o d (Some e) d
+not_left Less d e h = refl
+not_left Equal d e h = let no = h refl in absurd (cc)
+not_left Greater d e h = refl
+
+is_left : (o : Ordering) (d : Option Data) (v e : Data) → (is_eq o ≡ true → Some v ≡ Some e) → match_ordering o d (Some v) d ≡ match_ordering o d (Some e) d
+is_left Less d v e h = refl
+is_left Equal d v e h = h refl
+is_left Greater d v e h = refl
+
+get_if : (k l : List ℕ) (o : Option Data) (rest : Members) (e : Data) → (is_eq (slice_cmp nat_cmp k l) ≡ true → o ≡ Some e)
+    → get_member k (member_if l o rest) ≡ match_ordering (slice_cmp nat_cmp k l) (get_member k rest) (Some e) (get_member k rest)
+get_if k l None rest e h = not_left (slice_cmp nat_cmp k l) (get_member k rest) e h
+get_if k l (Some v) rest e h = is_left (slice_cmp nat_cmp k l) (get_member k rest) v e h
+
+-- what is left whole
+pub get_member-kept : (f : List ℕ → Data → Option Data) (k : List ℕ) (ms : Members) → ((e : Data) → f k e ≡ Some e) → get_member k (keep f ms) ≡ get_member k ms
+get_member-kept f k no_members h = refl
+get_member-kept f k (member l e ms) h =
+    get_if k l (f l e) (keep f ms) e (λ is. ap (λ n. f n e) (sym (same_name k l is)) ∙ h e)
+    ∙ ap (λ d. match_ordering (slice_cmp nat_cmp k l) d (Some e) d) (get_member-kept f k ms h)
+
+none_at : (o : Ordering) (d : Option Data) (v : Data) → (is_eq o ≡ true → Some v ≡ None) → d ≡ None → match_ordering o d (Some v) d ≡ None
+none_at Less d v h none = none
+none_at Equal d v h none = h refl
+none_at Greater d v h none = none
+
+none_if : (k l : List ℕ) (o : Option Data) (rest : Members) → (is_eq (slice_cmp nat_cmp k l) ≡ true → o ≡ None) → get_member k rest ≡ None → get_member k (member_if l o rest) ≡ None
+none_if k l None rest h none = none
+none_if k l (Some v) rest h none = none_at (slice_cmp nat_cmp k l) (get_member k rest) v h none
+
+pub get_member-unkept : (f : List ℕ → Data → Option Data) (k : List ℕ) (ms : Members) → ((e : Data) → f k e ≡ None) → get_member k (keep f ms) ≡ None
+get_member-unkept f k no_members h = refl
+get_member-unkept f k (member l e ms) h =
+    none_if k l (f l e) (keep f ms) (λ is. ap (λ n. f n e) (sym (same_name k l is)) ∙ h e) (get_member-unkept f k ms h)

@@ -8,18 +8,19 @@ use Rattle.base64.specs.GeneralPurpose.{encode_of}
 use Rattle.serde_json.specs.Data.{Data}
 use Rattle.fed_json.specs.CanonicalText.{canonical_text}
 use Rattle.fed_redaction.specs.Names.{leave_out}
-use Rattle.fed_redaction.specs.Redaction.{redacted}
+use Rattle.fed_redaction.specs.Event.{Event}
+use Rattle.fed_redaction.specs.Redaction.{redacted_in}
 
 -- the top-level keys that no signature covers
 abbrev pub unsigned_keys : List (List ℕ)
 unsigned_keys = codes "signatures" ∷ codes "unsigned" ∷ []
 
 -- what is signed: the redaction without them
-abbrev pub signed_part : Data → Data
-signed_part event = leave_out unsigned_keys (redacted event)
+abbrev pub signed_part : Event → Data
+signed_part event = leave_out unsigned_keys (redacted_in event.version event.value)
 
 -- its bytes
-abbrev pub signed_text_of : Data → List ℕ
+abbrev pub signed_text_of : Event → List ℕ
 signed_text_of event = canonical_text (signed_part event)
 
 -- the id of an event with this signed text: `$` and the reference hash, in the URL-safe alphabet of base64, without padding
@@ -27,7 +28,7 @@ abbrev pub id_of_signed : List ℕ → List ℕ
 id_of_signed text = codes "$" ++ encode_of url_safe_no_pad (sha256 text)
 
 -- the id as a text
-abbrev pub event_id_of : Data → List ℕ
+abbrev pub event_id_of : Event → List ℕ
 event_id_of event = id_of_signed (signed_text_of event)
 
 -- the characters of the URL-safe alphabet of base64 (RFC 4648, section 5)

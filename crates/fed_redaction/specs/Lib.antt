@@ -1,4 +1,6 @@
 pub mod Names
+pub mod Version
+pub mod Event
 pub mod Redaction
 pub mod EventId
 pub mod Laws

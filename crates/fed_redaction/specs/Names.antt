@@ -1,5 +1,5 @@
 -- Members by their names.
-use Rattle.std.specs.Prelude.{ℕ, List, [], ◌∷◌, Bool, not, bytes_eq, if◌then◌else◌}
+use Rattle.std.specs.Prelude.{ℕ, List, [], ◌∷◌, Bool, not, Option, Some, None, bytes_eq, if◌then◌else◌}
 use Rattle.std.specs.List.{list_any}
 use Rattle.serde_json.specs.Data.{Data, null, boolean, number, string, array, object, Members, no_members, member}
 
@@ -11,6 +11,16 @@ is_one_of names name = list_any (λ n. bytes_eq name n) names
 abbrev pub select : (List ℕ → Bool) → Members → Members
 select test no_members = no_members
 select test (member k d ms) = if test k then member k d (select test ms) else select test ms
+
+-- the members with one more before them, where there is a value for it
+abbrev pub member_if : List ℕ → Option Data → Members → Members
+member_if k None ms = ms
+member_if k (Some d) ms = member k d ms
+
+-- of each member what the test leaves of its value, where it leaves something
+abbrev pub keep : (List ℕ → Data → Option Data) → Members → Members
+keep left no_members = no_members
+keep left (member k d ms) = member_if k (left k d) (keep left ms)
 
 -- the members, with f of the value under this name in its place
 abbrev pub at_name : List ℕ → (Data → Data) → Members → Members

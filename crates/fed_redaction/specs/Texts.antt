@@ -1,8 +1,8 @@
 -- The texts of an event: its canonical text, the one that is signed and the one that the content hash covers.
 use Rattle.std.specs.Prelude.{ℕ, List, [], refl}
 use Rattle.std.specs.Coded.{Coded, code_by, coded×, coded_list, coded_ℕ}
-use Rattle.serde_json.specs.Data.{Data}
 use Rattle.fed_json.specs.CanonicalText.{canonical_text}
+use Rattle.fed_redaction.specs.Event.{Event}
 use Rattle.fed_redaction.specs.EventId.{signed_text_of}
 use Rattle.fed_redaction.specs.ContentHash.{covered_text_of}
 
@@ -19,5 +19,5 @@ texts_code =
 abbrev pub no_texts : EventTexts
 no_texts = record { whole = []; signed = []; covered = [] }
 
-abbrev pub event_texts : Data → EventTexts
-event_texts event = record { whole = canonical_text event; signed = signed_text_of event; covered = covered_text_of event }
+abbrev pub event_texts : Event → EventTexts
+event_texts event = record { whole = canonical_text event.value; signed = signed_text_of event; covered = covered_text_of event.value }

@@ -3,9 +3,11 @@ ghost use Rattle.std.specs.Prelude.{◌≡◌, Some, IfOk, string_bytes, bytes_e
 ghost use Rattle.std.specs.Cmp.{partial_equiv_from_equiv};
 ghost use Rattle.std.specs.Cmp.Lexicographic.{slice_cmp, nat_list_eq_equiv, nat_list_cmp_total, texts_po, texts_ties};
 ghost use Rattle.std.specs.Ordering.{nat_cmp};
+ghost use Rattle.fed_redaction.specs.Event.{event_in};
 ghost use Rattle.fed_redaction.specs.EventId.{event_id_of, id_of_signed};
 
 use crate::signed::signed_text;
+use crate::version::Version;
 use base64::engine::general_purpose::URL_SAFE_NO_PAD;
 use fed_json::{Json, NoMemory};
 use sha2::{Digest, Sha256};
@@ -118,11 +120,12 @@ impl fmt::Debug for EventId {
     }
 }
 
-/// The id of an event: `$` and the unpadded URL-safe base64 of the SHA-256 of its signed text. A value that is no event has one too.
-pub fn event_id(alloc: Global, event: &Json) -> Result<EventId, NoMemory>
-    ensures { IfOk result (λ id. id ≡ event_id_of event.now) }
+/// The id of an event in a room of this version: `$` and the unpadded URL-safe base64 of the SHA-256 of its signed text. A value that is
+/// no event has one too.
+pub fn event_id(alloc: Global, version: Version, event: &Json) -> Result<EventId, NoMemory>
+    ensures { IfOk result (λ id. id ≡ event_id_of (event_in version event.now)) }
 {
-    event_id_of_signed(alloc, &signed_text(alloc, event)?)
+    event_id_of_signed(alloc, &signed_text(alloc, version, event)?)
 }
 
 /// The id of the event whose signed text this is, for a caller that has it.

@@ -1,6 +1,7 @@
 //! What redaction leaves of an event, and the texts that are made of it: what its servers sign, what its content hash covers, and
-//! its id. A value need not be an event to have them.
+//! its id. They depend on the version of the room. A value need not be an event to have them.
 //!
+//! - `version`: `Version`, the version of a room, and what depends on it
 //! - `redaction`: what redaction leaves of an event
 //! - `texts`: `Texts`, the texts of an event: the canonical one, the signed one and the one that the content hash covers
 //! - `signed`: the bytes of an event that are signed and hashed
@@ -19,6 +20,7 @@ mod object_text;
 mod redaction;
 mod signed;
 mod texts;
+mod version;
 
 pub use hash::{content_hash, covered_text, hash_fits};
 pub use id::{EventId, event_id, event_id_of_signed};
@@ -29,3 +31,4 @@ pub use laws::{
 pub use redaction::redact;
 pub use signed::signed_text;
 pub use texts::Texts;
+pub use version::Version;

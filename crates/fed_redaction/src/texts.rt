@@ -1,18 +1,20 @@
 // The texts of an event.
-ghost use Rattle.std.specs.Prelude.{◌≡◌, map, IfOk, OnOk};
+ghost use Rattle.std.specs.Prelude.{◌≡◌, IfOk, OnOk};
 ghost use Rattle.serde_json.specs.Data.{Data, object, Members as MemberList, member as first};
 ghost use Rattle.fed_json.specs.CanonicalText.{canonical_text};
 ghost use Rattle.fed_json.specs.JsonRef.{seen};
 ghost use Rattle.fed_json.specs.Members.{members_left};
 ghost use Rattle.fed_redaction.specs.Names.{members_of};
+ghost use Rattle.fed_redaction.specs.Event.{event_in};
 ghost use Rattle.fed_redaction.specs.Texts.{no_texts, event_texts};
-ghost use Rattle.fed_redaction.specs.TextsParts.{member_text, completed, covered_members, signed_members};
+ghost use Rattle.fed_redaction.specs.TextsParts.{member_text, completed, covered_members, signed_members, kept_by};
 
 use crate::hash::is_covered;
-use crate::kept::{content_keys, is_signed};
+use crate::kept::{ContentRule, content_rule, is_signed};
 use crate::object_text::ObjectText;
 use crate::redaction::event_type;
 use crate::signed::add_content;
+use crate::version::Version;
 use fed_json::{Json, JsonRef, Members, NoMemory, canonical};
 use std::alloc::Global;
 use std::marker::Model;
@@ -51,21 +53,22 @@ impl Texts {
         }
     }
 
-    /// The texts of an event, or of another value.
-    pub fn of(alloc: Global, event: &Json) -> Result<Texts, NoMemory>
-        ensures { IfOk result (λ texts. texts ≡ event_texts event.now) }
+    /// The texts of an event in a room of this version, or of another value.
+    pub fn of(alloc: Global, version: Version, event: &Json) -> Result<Texts, NoMemory>
+        ensures { IfOk result (λ texts. texts ≡ event_texts (event_in version event.now)) }
     {
-        Texts::new(alloc).rewritten(alloc, event)
+        Texts::new(alloc).rewritten(alloc, version, event)
     }
 
-    /// The texts of an event, or of another value, written in the room that these texts have.
-    pub fn rewritten(self, alloc: Global, event: &Json) -> Result<Texts, NoMemory>
-        ensures { IfOk result (λ texts. texts ≡ event_texts event.now) }
+    /// The texts of an event in a room of this version, or of another value, written in the room that these texts have.
+    pub fn rewritten(self, alloc: Global, version: Version, event: &Json) -> Result<Texts, NoMemory>
+        ensures { IfOk result (λ texts. texts ≡ event_texts (event_in version event.now)) }
     {
         let root = event.root();
         match root.members() {
             Some(members) => {
-                texts_of_members(alloc, self, members, content_keys(event_type(root)))
+                let rule = content_rule(version, event_type(root));
+                texts_of_members(alloc, self, version, members, rule)
             }
             None => same_texts(alloc, event),
         }
@@ -101,15 +104,16 @@ impl Texts {
     }
 }
 
-// The texts of the object of these members, an event whose content keeps these keys, in the room of others.
+// The texts of the object of these members, an event of whose content this rule keeps a part, in the room of others.
 fn texts_of_members(
     alloc: Global,
     room: Texts,
+    version: Version,
     members: Members<'_>,
-    keys: &[&str],
+    rule: ContentRule,
 ) -> Result<Texts, NoMemory>
     ensures { let all = members_of (members_left members.entry) in
-        let signed = signed_members (map (λ key. key.now) keys.now) all in
+        let signed = signed_members version (kept_by rule) all in
         IfOk result (λ texts. (texts.whole ≡ canonical_text (object all))
         × (texts.signed ≡ canonical_text (object signed))
         × (texts.covered ≡ canonical_text (object (covered_members all)))) }
@@ -121,7 +125,7 @@ fn texts_of_members(
         let start = whole.add(alloc, name, value)?;
         let member = whole.text_from(start);
         covered_with(&mut covered, name, member)?;
-        signed_with(alloc, &mut signed, name, value, member, keys)?;
+        signed_with(alloc, &mut signed, version, name, value, member, rule)?;
     }
     Ok(Texts {
         whole: whole.end()?,
@@ -142,25 +146,26 @@ fn covered_with(covered: &mut ObjectText, name: &str, member: &[u8]) -> Result<(
     Ok(())
 }
 
-// Writes a member where it is signed, the content with these keys alone.
+// Writes a member where it is signed, of the content what the rule keeps.
 fn signed_with(
     alloc: Global,
     signed: &mut ObjectText,
+    version: Version,
     name: &str,
     value: JsonRef<'_>,
     member: &[u8],
-    keys: &[&str],
+    rule: ContentRule,
 ) -> Result<(), NoMemory>
     requires { member.now ≡ member_text name.now (seen value) }
-    ensures { let kept = map (λ key. key.now) keys.now in
-        OnOk result ((rest : MemberList) → completed signed.new (signed_members kept rest)
-        ≡ completed signed.old (signed_members kept (first name.now (seen value.entry) rest))) }
+    ensures { let kept = kept_by rule in
+        OnOk result ((rest : MemberList) → completed signed.new (signed_members version kept rest)
+        ≡ completed signed.old (signed_members version kept (first name.now (seen value.entry) rest))) }
 {
-    if !is_signed(name) {
+    if !is_signed(version, name) {
         return Ok(());
     }
     if name == "content" {
-        add_content(alloc, signed, value, keys)
+        add_content(alloc, signed, value, rule)
     } else {
         signed.copy(member)
     }

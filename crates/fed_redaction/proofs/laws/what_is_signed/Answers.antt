@@ -9,5 +9,5 @@ pub returns-clause-id : goal.returns-clause-id
 returns-clause-id c d e same = ap event_id_from same
 
 pub returns-clause-left : goal.returns-clause-left
-returns-clause-left c d e k same out =
-    sym (get-leave_out unsigned_keys k (redacted d) out) ∙ ap (get k) same ∙ get-leave_out unsigned_keys k (redacted e) out
+returns-clause-left c one other k same out =
+    sym (get-leave_out unsigned_keys k (redacted one).value out) ∙ ap (get k) same ∙ get-leave_out unsigned_keys k (redacted other).value out
