@@ -9,7 +9,7 @@ use Rattle.fed_json.specs.JsonRef.{as_items}
 use Rattle.fed_event.specs.declared.field.Field.TheVariants.{Event, AuthEvents, PrevEvents, RoomId, Sender, StateKey, «Type»}
 use Rattle.fed_event.specs.declared.fault.PduFault.TheVariants.{WrongKind, TooLarge, TooLong, TooMany, TooDeep}
 use Rattle.fed_event.specs.Tests.{part, has_kind, holds, is_text, first_fault_of}
-use Rattle.fed_event.specs.Event.{IsEvent}
+use Rattle.fed_event.specs.Format.{IsEvent}
 use Rattle.fed_event.proofs.Faults.{passed, passed_both}
 
 not_false : (b : Bool) → not b ≡ false → b ≡ true

@@ -8,6 +8,8 @@ use Rattle.serde_json.proofs.Nesting.{depth-read}
 use Rattle.fed_json.specs.Reading.{ReadsWithin, IsNotJson, HasOtherNumber, NestsPast}
 use Rattle.fed_event.specs.declared.fault.PduFault.{PduFault}
 use Rattle.fed_event.specs.declared.fault.PduFault.TheVariants.{Memory, NotJson, NotCanonical}
+use Rattle.fed_redaction.specs.declared.version.Version.{Version}
+use Rattle.fed_redaction.specs.Event.{Event, event_in}
 use Rattle.fed_event.specs.Reading.{event_of, canonical_event, read_of}
 use Rattle.fed_event.specs.Tests.{first_fault_of}
 use Rattle.fed_event.proofs.Faults.{event-passed, event-failed}
@@ -28,11 +30,12 @@ pub read-other_number : (bytes : List ℕ) → HasOtherNumber bytes → read_of 
 read-other_number bytes (d, reads, other) = rw (is_utf8-from_IsUtf8 bytes reads.0, reads.1, other)
 
 -- what was read, where it was tested as `Pdu::of_json` says
-pub read-event : (bytes : List ℕ) (d : Data) (r : Result Data PduFault) → ReadsWithin bytes 127 d → IfOk r (λ p. p ≡ d) → IfOk r (λ _. first_fault_of d ≡ None) → IfOk r (λ p. read_of bytes ≡ Ok p)
-read-event bytes d (Ok p) reads ok passes = read-value bytes d reads ∙ event-passed d passes ∙ ap Ok (sym ok)
-read-event bytes d (Err e) reads ok passes = tt
+pub read-event : (version : Version) (bytes : List ℕ) (d : Data) (r : Result Event PduFault) → ReadsWithin bytes 127 d → IfOk r (λ p. p ≡ event_in version d)
+    → IfOk r (λ _. first_fault_of d ≡ None) → IfOk r (λ p. read_of bytes ≡ Ok p.value)
+read-event version bytes d (Ok p) reads ok passes = read-value bytes d reads ∙ event-passed d passes ∙ ap (λ e. Ok e.value) (sym ok)
+read-event version bytes d (Err e) reads ok passes = tt
 
-pub read-fault : (bytes : List ℕ) (d : Data) (r : Result Data PduFault) → ReadsWithin bytes 127 d → IfErr r (λ e. e ≢ Memory → first_fault_of d ≡ Some e) → IfErr r (λ e. e ≢ Memory → read_of bytes ≡ Err e)
+pub read-fault : (bytes : List ℕ) (d : Data) (r : Result Event PduFault) → ReadsWithin bytes 127 d → IfErr r (λ e. e ≢ Memory → first_fault_of d ≡ Some e) → IfErr r (λ e. e ≢ Memory → read_of bytes ≡ Err e)
 read-fault bytes d (Ok p) reads fails = tt
 read-fault bytes d (Err e) reads fails = λ other. read-value bytes d reads ∙ event-failed d e (fails other)
 

@@ -20,7 +20,10 @@ use Rattle.fed_redaction.specs.Names.{is_one_of, select, leave_out}
 use Rattle.fed_event.specs.declared.field.Field.TheVariants.{Sender}
 use Rattle.fed_event.specs.Tests.{holds, has_kind, first_fault_of}
 use Rattle.fed_event.specs.Ids.{domain_of, is_id_text}
-use Rattle.fed_redaction.specs.Redaction.{event_keys, redacted}
+use Rattle.fed_redaction.specs.declared.version.Version.{Version}
+use Rattle.fed_redaction.specs.Version.{event_keys}
+use Rattle.fed_redaction.specs.Event.{Event, event_in}
+use Rattle.fed_redaction.specs.Redaction.{redacted}
 use Rattle.fed_redaction.specs.EventId.{unsigned_keys, signed_part, signed_text_of}
 use Rattle.fed_redaction.specs.ContentHash.{uncovered_keys, content_hash_of, given_hash_of, hash_fits_of}
 use Rattle.fed_keys.specs.Keys.{Checks}
@@ -60,17 +63,17 @@ leave_out-with_member names k v (object ms) h = ap object (select-put (λ n. not
 covered-with : (k : List ℕ) (v d : Data) → is_one_of uncovered_keys k ≡ true → content_hash_of (with_member k v d) ≡ content_hash_of d
 covered-with k v d h = ap (λ part. encode_of standard_no_pad (sha256 (canonical_text part))) (leave_out-with_member uncovered_keys k v d h)
 
-are_unsigned : AreUnsigned unsigned_keys
-are_unsigned name h = ap (λ b. is_one_of event_keys name && not b) h ∙ and-false (is_one_of event_keys name)
+are_unsigned : (version : Version) → AreUnsigned version unsigned_keys
+are_unsigned version name h = ap (λ b. is_one_of (event_keys version) name && not b) h ∙ and-false (is_one_of (event_keys version) name)
 
-signed_part-signatures : (v d : Data) → signed_part (with_member (codes "signatures") v d) ≡ signed_part d
-signed_part-signatures v d =
-    sym (signed_part-leave_out unsigned_keys (with_member (codes "signatures") v d) are_unsigned)
-    ∙ ap signed_part (leave_out-with_member unsigned_keys (codes "signatures") v d refl)
-    ∙ signed_part-leave_out unsigned_keys d are_unsigned
+signed_part-signatures : (version : Version) (v d : Data) → signed_part (event_in version (with_member (codes "signatures") v d)) ≡ signed_part (event_in version d)
+signed_part-signatures version v d =
+    sym (signed_part-leave_out version unsigned_keys (with_member (codes "signatures") v d) (are_unsigned version))
+    ∙ ap (λ left. signed_part (event_in version left)) (leave_out-with_member unsigned_keys (codes "signatures") v d refl)
+    ∙ signed_part-leave_out version unsigned_keys d (are_unsigned version)
 
-signed_text-signatures : (v d : Data) → signed_text_of (with_member (codes "signatures") v d) ≡ signed_text_of d
-signed_text-signatures v d = ap canonical_text (signed_part-signatures v d)
+signed_text-signatures : (version : Version) (v d : Data) → signed_text_of (event_in version (with_member (codes "signatures") v d)) ≡ signed_text_of (event_in version d)
+signed_text-signatures version v d = ap canonical_text (signed_part-signatures version v d)
 
 -- ---- what stands where
 
@@ -106,13 +109,13 @@ sender-put v w ms =
 
 -- ---- the sender
 
-sender_text-sealed : (server key : List ℕ) (sign : List ℕ → List ℕ) (parts : Data) → sender_text (sealed_of server key sign parts) ≡ sender_text parts
-sender_text-sealed server key sign null = refl
-sender_text-sealed server key sign (boolean b) = refl
-sender_text-sealed server key sign (number n) = refl
-sender_text-sealed server key sign (string s) = refl
-sender_text-sealed server key sign (array ds) = refl
-sender_text-sealed server key sign (object ms) = ap (option_and_then as_str) (sender-put _ _ ms)
+sender_text-sealed : (server key : List ℕ) (sign : List ℕ → List ℕ) (version : Version) (parts : Data) → sender_text (sealed_of server key sign version parts).value ≡ sender_text parts
+sender_text-sealed server key sign version null = refl
+sender_text-sealed server key sign version (boolean b) = refl
+sender_text-sealed server key sign version (number n) = refl
+sender_text-sealed server key sign version (string s) = refl
+sender_text-sealed server key sign version (array ds) = refl
+sender_text-sealed server key sign version (object ms) = ap (option_and_then as_str) (sender-put _ _ ms)
 
 a_text : (o : Option (List ℕ)) → holds (is_id_text 64) o ≡ true → IsSome o
 a_text None h = absurd (cc)
@@ -122,62 +125,63 @@ sent : (o : Option Data) → has_kind Sender (unwrap_or o null) ≡ true → IsS
 sent None h = absurd (cc)
 sent (Some value) h = a_text (as_str value) h
 
-pub sender_text-passed : (server key : List ℕ) (sign : List ℕ → List ℕ) (parts : Data) → first_fault_of (sealed_of server key sign parts) ≡ None → IsSome (sender_text parts)
-sender_text-passed server key sign parts passes =
-    let event = sealed_of server key sign parts in
-    subst IsSome (sender_text-sealed server key sign parts) (sent (get (codes "sender") event) (kind_passed event Sender passes refl))
+pub sender_text-passed : (server key : List ℕ) (sign : List ℕ → List ℕ) (version : Version) (parts : Data) → first_fault_of (sealed_of server key sign version parts).value ≡ None
+    → IsSome (sender_text parts)
+sender_text-passed server key sign version parts passes =
+    let event = (sealed_of server key sign version parts).value in
+    subst IsSome (sender_text-sealed server key sign version parts) (sent (get (codes "sender") event) (kind_passed event Sender passes refl))
 
 -- ---- the event as a whole
 
-pub signed_text-signed : (server key : List ℕ) (sign : List ℕ → List ℕ) (event : Data) → signed_text_of (signed_of server key sign event) ≡ signed_text_of event
-signed_text-signed server key sign event = signed_text-signatures (holding server (holding key (string (signature_text_of sign event)))) event
+pub signed_text-signed : (server key : List ℕ) (sign : List ℕ → List ℕ) (event : Event) → signed_text_of (signed_of server key sign event) ≡ signed_text_of event
+signed_text-signed server key sign event = signed_text-signatures event.version (holding server (holding key (string (signature_text_of sign event)))) event.value
 
 fits-text : (event : Data) (hash text : List ℕ) → given_hash_of event ≡ Some text → content_hash_of event ≡ hash → hash ≡ text → hash_fits_of event ≡ true
 fits-text event hash text given is same = ap (λ o. holds (bytes_eq (content_hash_of event)) o) given ∙ (bytes_eq-Decides (content_hash_of event) text).1 (is ∙ same)
 
-content_hash-sealed : (server key : List ℕ) (sign : List ℕ → List ℕ) (parts : Data) → content_hash_of (sealed_of server key sign parts) ≡ content_hash_of parts
-content_hash-sealed server key sign parts = covered-with (codes "signatures") _ (hashed_of parts) refl ∙ covered-with (codes "hashes") _ parts refl
+content_hash-sealed : (server key : List ℕ) (sign : List ℕ → List ℕ) (version : Version) (parts : Data) → content_hash_of (sealed_of server key sign version parts).value ≡ content_hash_of parts
+content_hash-sealed server key sign version parts = covered-with (codes "signatures") _ (hashed_of parts) refl ∙ covered-with (codes "hashes") _ parts refl
 
-pub hash_fits-sealed : (server key : List ℕ) (sign : List ℕ → List ℕ) (parts : Data) → IsSome (sender_text parts) → hash_fits_of (sealed_of server key sign parts) ≡ true
-hash_fits-sealed server key sign null has = absurd (cc)
-hash_fits-sealed server key sign (boolean b) has = absurd (cc)
-hash_fits-sealed server key sign (number n) has = absurd (cc)
-hash_fits-sealed server key sign (string s) has = absurd (cc)
-hash_fits-sealed server key sign (array ds) has = absurd (cc)
-hash_fits-sealed server key sign (object ms) has =
-    fits-text (sealed_of server key sign (object ms)) (content_hash_of (object ms)) (content_hash_of (object ms)) (given_hash-put _ (content_hash_of (object ms)) ms)
-    (content_hash-sealed server key sign (object ms)) refl
+pub hash_fits-sealed : (server key : List ℕ) (sign : List ℕ → List ℕ) (version : Version) (parts : Data) → IsSome (sender_text parts) → hash_fits_of (sealed_of server key sign version parts).value ≡ true
+hash_fits-sealed server key sign version null has = absurd (cc)
+hash_fits-sealed server key sign version (boolean b) has = absurd (cc)
+hash_fits-sealed server key sign version (number n) has = absurd (cc)
+hash_fits-sealed server key sign version (string s) has = absurd (cc)
+hash_fits-sealed server key sign version (array ds) has = absurd (cc)
+hash_fits-sealed server key sign version (object ms) has =
+    fits-text (sealed_of server key sign version (object ms)).value (content_hash_of (object ms)) (content_hash_of (object ms)) (given_hash-put _ (content_hash_of (object ms)) ms)
+    (content_hash-sealed server key sign version (object ms)) refl
 
 signer : (o : Option (List ℕ)) (server : List ℕ) → IsSome o → IfSome o (λ sender. domain_of sender ≡ server) → domain_of (unwrap_or o []) ≡ server
 signer None server has own = absurd (cc)
 signer (Some sender) server has own = own
 
-signed-one : (checks : Checks) (server key signature : List ℕ) (value event : Data) → signatures_by server event ≡ (key, value) ∷ [] → signature_in value ≡ Some signature
+signed-one : (checks : Checks) (server key signature : List ℕ) (value : Data) (event : Event) → signatures_by server event.value ≡ (key, value) ∷ [] → signature_in value ≡ Some signature
     → checks server key (signed_text_of event) signature ≡ true → is_signed_by checks server event ≡ true
 signed-one checks server key signature value event there is good =
     ap (λ entries. list_any (λ entry. holds (checks server entry.0 (signed_text_of event)) (signature_in entry.1)) entries) there
     ∙ ap (λ o. holds (checks server key (signed_text_of event)) o || false) is ∙ ap (λ b. b || false) good
 
-pub is_signed-sealed : (checks : Checks) (server key : List ℕ) (sign : List ℕ → List ℕ) (parts : Data) → IsSome (sender_text parts) → IsSentBy server parts
-    → signature_in (string (signature_text_of sign (hashed_of parts))) ≡ Some (sign (signed_text_of (hashed_of parts)))
+pub is_signed-sealed : (checks : Checks) (server key : List ℕ) (sign : List ℕ → List ℕ) (version : Version) (parts : Data) → IsSome (sender_text parts) → IsSentBy server parts
+    → signature_in (string (signature_text_of sign (event_in version (hashed_of parts)))) ≡ Some (sign (signed_text_of (event_in version (hashed_of parts))))
     → ((message : List ℕ) → checks server key message (sign message) ≡ true)
-    → is_signed checks (sealed_of server key sign parts) ≡ true
-is_signed-sealed checks server key sign null has own decodes law = absurd (cc)
-is_signed-sealed checks server key sign (boolean b) has own decodes law = absurd (cc)
-is_signed-sealed checks server key sign (number n) has own decodes law = absurd (cc)
-is_signed-sealed checks server key sign (string s) has own decodes law = absurd (cc)
-is_signed-sealed checks server key sign (array ds) has own decodes law = absurd (cc)
-is_signed-sealed checks server key sign (object ms) has own decodes law =
-    let hashed = hashed_of (object ms) in
-    let event = sealed_of server key sign (object ms) in
+    → is_signed checks (sealed_of server key sign version parts) ≡ true
+is_signed-sealed checks server key sign version null has own decodes law = absurd (cc)
+is_signed-sealed checks server key sign version (boolean b) has own decodes law = absurd (cc)
+is_signed-sealed checks server key sign version (number n) has own decodes law = absurd (cc)
+is_signed-sealed checks server key sign version (string s) has own decodes law = absurd (cc)
+is_signed-sealed checks server key sign version (array ds) has own decodes law = absurd (cc)
+is_signed-sealed checks server key sign version (object ms) has own decodes law =
+    let hashed = event_in version (hashed_of (object ms)) in
+    let event = sealed_of server key sign version (object ms) in
     let text = signature_text_of sign hashed in
     let message = signed_text_of hashed in
-    let same = signed_text-signatures (holding server (holding key (string text))) hashed in
+    let same = signed_text-signatures version (holding server (holding key (string text))) hashed.value in
     let sender = ap (λ o. domain_of (unwrap_or (option_and_then as_str o) [])) (sender-put _ _ ms) ∙ signer (sender_text (object ms)) server has own in
     ap (λ s. is_signed_by checks s event) sender
     ∙ signed-one checks server key (sign message) (string text) event (signatures_by-put server key text (put (codes "hashes") (holding (codes "sha256") (string (content_hash_of (object ms)))) ms)) decodes
     (ap (λ m. checks server key m (sign message)) same ∙ law message)
 
 -- what fits is kept as it is
-pub event-fitting : (checks : Checks) (event : Data) (kept : CheckedEvent) → kept ≡ checked_of checks event → hash_fits_of event ≡ true → kept.event ≡ event
-event-fitting checks event kept is fits = ap (λ k. k.event) is ∙ cond-true (hash_fits_of event) event (redacted event) fits
+pub event-fitting : (checks : Checks) (event : Event) (kept : CheckedEvent) → kept ≡ checked_of checks event → hash_fits_of event.value ≡ true → kept.event ≡ event
+event-fitting checks event kept is fits = ap (λ k. k.event) is ∙ cond-true (hash_fits_of event.value) event (redacted event) fits

@@ -6,6 +6,7 @@ use Rattle.serde_json.specs.Find.{as_str}
 use Rattle.fed_json.specs.JsonRef.{as_whole, as_items}
 use Rattle.fed_event.specs.declared.field.Field.{Field}
 use Rattle.fed_event.specs.declared.field.Field.TheVariants.{Event, AuthEvents, Content, Depth, Hashes, OriginServerTs, PrevEvents, RoomId, Sender, Signatures, StateKey, «Type»}
+use Rattle.fed_redaction.specs.Event.{Event as RoomEvent}
 use Rattle.fed_event.specs.Tests.{part}
 
 -- the fields that no event lacks, and of these those that hold a text, a whole number and ids
@@ -45,36 +46,38 @@ whole_at field event = unwrap_or (option_and_then as_whole (part field event)) (
 abbrev pub texts_at : Field → Data → List (List ℕ)
 texts_at field event = map text_in (unwrap_or (option_and_then as_items (part field event)) [])
 
-abbrev pub auth_events_of : Data → List (List ℕ)
-auth_events_of = texts_at AuthEvents
+-- ---- the fields of an event
 
-abbrev pub content_of : Data → Data
-content_of = value_at Content
+abbrev pub auth_events_of : RoomEvent → List (List ℕ)
+auth_events_of event = texts_at AuthEvents event.value
 
-abbrev pub depth_of : Data → ℤ
-depth_of = whole_at Depth
+abbrev pub content_of : RoomEvent → Data
+content_of event = value_at Content event.value
 
-abbrev pub hashes_of : Data → Data
-hashes_of = value_at Hashes
+abbrev pub depth_of : RoomEvent → ℤ
+depth_of event = whole_at Depth event.value
 
-abbrev pub origin_server_ts_of : Data → ℤ
-origin_server_ts_of = whole_at OriginServerTs
+abbrev pub hashes_of : RoomEvent → Data
+hashes_of event = value_at Hashes event.value
 
-abbrev pub prev_events_of : Data → List (List ℕ)
-prev_events_of = texts_at PrevEvents
+abbrev pub origin_server_ts_of : RoomEvent → ℤ
+origin_server_ts_of event = whole_at OriginServerTs event.value
 
-abbrev pub room_id_of : Data → List ℕ
-room_id_of = text_at RoomId
+abbrev pub prev_events_of : RoomEvent → List (List ℕ)
+prev_events_of event = texts_at PrevEvents event.value
 
-abbrev pub sender_of : Data → List ℕ
-sender_of = text_at Sender
+abbrev pub room_id_of : RoomEvent → List ℕ
+room_id_of event = text_at RoomId event.value
 
-abbrev pub signatures_of : Data → Data
-signatures_of = value_at Signatures
+abbrev pub sender_of : RoomEvent → List ℕ
+sender_of event = text_at Sender event.value
 
-abbrev pub state_key_of : Data → Option (List ℕ)
-state_key_of event = option_and_then as_str (part StateKey event)
+abbrev pub signatures_of : RoomEvent → Data
+signatures_of event = value_at Signatures event.value
+
+abbrev pub state_key_of : RoomEvent → Option (List ℕ)
+state_key_of event = option_and_then as_str (part StateKey event.value)
 
 -- the type
-abbrev pub kind_of : Data → List ℕ
-kind_of = text_at «Type»
+abbrev pub kind_of : RoomEvent → List ℕ
+kind_of event = text_at «Type» event.value

@@ -4,7 +4,7 @@ pub mod Reading
 pub mod Verdict
 pub mod Ids
 pub mod Fields
-pub mod Event
+pub mod Format
 pub mod EventIds
 pub mod Signatures
 pub mod Checked
@@ -14,6 +14,8 @@ pub use Rattle.fed_keys.specs.Keys
 pub use Rattle.fed_keys.specs.StandIn
 pub use Rattle.fed_keys.specs.Trusting
 pub use Rattle.fed_redaction.specs.Names
+pub use Rattle.fed_redaction.specs.Version
+pub use Rattle.fed_redaction.specs.Event
 pub use Rattle.fed_redaction.specs.Redaction
 pub use Rattle.fed_redaction.specs.EventId
 pub use Rattle.fed_redaction.specs.Laws

@@ -10,7 +10,9 @@ use Rattle.fed_json.specs.JsonRef.{as_members}
 use Rattle.fed_keys.specs.Keys.{Checks}
 use Rattle.fed_event.specs.Tests.{holds}
 use Rattle.fed_event.specs.Ids.{domain_of}
-use Rattle.fed_event.specs.Fields.{sender_of, signatures_of}
+use Rattle.fed_event.specs.declared.field.Field.TheVariants.{Signatures}
+use Rattle.fed_redaction.specs.Event.{Event}
+use Rattle.fed_event.specs.Fields.{value_at, sender_of}
 use Rattle.fed_redaction.specs.EventId.{signed_text_of}
 
 -- the 64 bytes of a signature, where it decodes to so many
@@ -19,13 +21,17 @@ signature_in value = option_and_then (λ bytes. if length bytes == 64 then Some 
 
 -- the signatures of a server on an event: the name of a key, and what stands there
 abbrev pub signatures_by : List ℕ → Data → List (List ℕ × Data)
-signatures_by server event = unwrap_or (option_and_then as_members (get server (signatures_of event))) []
+signatures_by server value = unwrap_or (option_and_then as_members (get server (value_at Signatures value))) []
 
--- some key of the server has a signature there that decodes and checks
-abbrev pub is_signed_by : Checks → List ℕ → Data → Bool
-is_signed_by checks server event =
-    list_any (λ entry. holds (checks server entry.0 (signed_text_of event)) (signature_in entry.1)) (signatures_by server event)
+-- some key of the server has a signature of this text there that decodes and checks
+abbrev pub has_signature : Checks → List ℕ → List ℕ → Data → Bool
+has_signature checks server text value =
+    list_any (λ entry. holds (checks server entry.0 text) (signature_in entry.1)) (signatures_by server value)
+
+-- some key of the server has signed the event
+abbrev pub is_signed_by : Checks → List ℕ → Event → Bool
+is_signed_by checks server event = has_signature checks server (signed_text_of event) event.value
 
 -- the server of the sender has signed (Server-Server API, "Checks performed on receipt of a PDU", check 2)
-abbrev pub is_signed : Checks → Data → Bool
+abbrev pub is_signed : Checks → Event → Bool
 is_signed checks event = is_signed_by checks (domain_of (sender_of event)) event

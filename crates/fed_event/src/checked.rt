@@ -1,9 +1,9 @@
 // Events that have passed the checks on receipt.
 ghost use Rattle.std.specs.Prelude.{◌≡◌, true, false, Err, IfOk, OnOk, IsErrOf, string_bytes, option_map, if◌then◌else◌};
 ghost use Rattle.std.specs.Arc.{arc_value};
-ghost use Rattle.serde_json.specs.Data.{Data};
 ghost use Rattle.fed_json.specs.JsonRef.{seen};
 ghost use Rattle.fed_event.specs.declared.checked.CheckFault.TheVariants.{Memory};
+ghost use Rattle.fed_redaction.specs.Event.{Event};
 ghost use Rattle.fed_redaction.specs.Redaction.{redacted};
 ghost use Rattle.fed_redaction.specs.EventId.{signed_text_of, event_id_of};
 ghost use Rattle.fed_redaction.specs.ContentHash.{hash_fits_of};
@@ -94,8 +94,8 @@ impl PartialEq for Checked {
     fn eq(&self, other: &Checked) -> bool
         ensures texts { result ≡ bytes_eq (checked_text self.now) (checked_text other.now) }
         ensures same { IsTrue result ↔ (self.now ≡ other.now) }
-        ensures one { IsProfile self.now.event }
-        ensures another { IsProfile other.now.event }
+        ensures one { IsProfile self.now.event.value }
+        ensures another { IsProfile other.now.event.value }
     {
         let is_same_event = *self.event == *other.event;
         is_same_event && self.authorised == other.authorised
@@ -153,7 +153,7 @@ pub fn check_in<K: Keys>(alloc: Global, event: Pdu, keys: &K) -> Result<Checked,
     ensures signed { OnOk result (is_signed_by_sender (K.checks keys.now) event ≡ true) }
     ensures unsigned { IsErrOf result CheckFault.BadSignature → is_signed_by_sender (K.checks keys.now) event ≡ false }
 {
-    let signed = signed_text(alloc, event.json())?;
+    let signed = signed_text(alloc, event.version(), event.json())?;
     check_signed(alloc, event, &signed, keys)
 }
 
@@ -184,7 +184,7 @@ pub fn check_signed<K: Keys>(
 
 // The event where its content hash fits, else its redaction.
 fn kept(alloc: Global, event: Pdu) -> Result<Arc<Pdu>, NoMemory>
-    ensures { IfOk result (λ kept. arc_value kept ≡ (if hash_fits_of event then event else redacted event)) }
+    ensures { IfOk result (λ kept. arc_value kept ≡ (if hash_fits_of event.value then event else redacted event)) }
 {
     let event = if event.hash_fits() {
         event
@@ -230,6 +230,6 @@ pub fn authorising_user_in(content: JsonRef<'_>) -> Option<&str>
 
 /// An event that has passed the checks on receipt has the id and the room of the event that came, redacted or not.
 pub fn ids_of_checked()
-    ensures id { (checks : Checks) (event : Data) → event_id_of (checked_of checks event).event ≡ event_id_of event }
-    ensures room { (checks : Checks) (event : Data) → room_id_of (checked_of checks event).event ≡ room_id_of event }
+    ensures id { (checks : Checks) (event : Event) → event_id_of (checked_of checks event).event ≡ event_id_of event }
+    ensures room { (checks : Checks) (event : Event) → room_id_of (checked_of checks event).event ≡ room_id_of event }
 {}

@@ -92,7 +92,7 @@ impl Pdu {
     // What stands in a field that no event lacks.
     fn value_at(&self, field: Field) -> JsonRef<'_>
         requires { IsTrue (is_needed field) }
-        ensures value { seen result ≡ value_at field self.now }
+        ensures value { seen result ≡ value_at field self.now.value }
         ensures kind { has_kind field (seen result) ≡ true }
     {
         match part(self.json(), field) {
@@ -104,7 +104,7 @@ impl Pdu {
     // The text in a field that holds a text.
     fn text_at(&self, field: Field) -> &str
         requires { IsTrue (has_text field) }
-        ensures { result.now ≡ text_at field self.now }
+        ensures { result.now ≡ text_at field self.now.value }
     {
         match self.value_at(field).text() {
             Some(text) => text,
@@ -115,7 +115,7 @@ impl Pdu {
     // The number in a field that holds a whole number.
     fn whole_at(&self, field: Field) -> i64
         requires { IsTrue (has_whole field) }
-        ensures { result ≡ whole_at field self.now }
+        ensures { result ≡ whole_at field self.now.value }
     {
         match self.value_at(field).whole() {
             Some(whole) => whole,
@@ -126,7 +126,7 @@ impl Pdu {
     // The ids in a field that holds ids.
     fn ids_at(&self, field: Field) -> EventIds<'_>
         requires { IsTrue (has_ids field) }
-        ensures { ids_left result ≡ texts_at field self.now }
+        ensures { ids_left result ≡ texts_at field self.now.value }
     {
         match self.value_at(field).items() {
             Some(items) => EventIds::new(items),

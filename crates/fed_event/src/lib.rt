@@ -33,7 +33,7 @@ pub use event_ids::EventIds;
 pub use fault::PduFault;
 pub use fed_keys::{Keys, StandIn, Trusting, stand_ins_agree};
 pub use fed_redaction::{
-    EventId, Texts, content_hash, event_id, event_id_of_signed, ids_of_redactions, redact,
+    EventId, Texts, Version, content_hash, event_id, event_id_of_signed, ids_of_redactions, redact,
     redacted_once, signed_text, unsigned_changes, what_ids_are, what_is_signed,
     what_redaction_keeps, what_the_hash_covers,
 };

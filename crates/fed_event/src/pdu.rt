@@ -2,6 +2,7 @@
 ghost use Rattle.std.specs.Prelude.{◌≡◌, ◌≢◌, true, Some, None, Ok, Err, find, IfOk, IfErr, IsOk, IsErr, IsSome, IsNone, IsOkUnless};
 ghost use Rattle.fed_event.specs.declared.field.Field.TheVariants.{Event};
 ghost use Rattle.fed_event.specs.declared.fault.PduFault.TheVariants.{Memory, WrongKind, TooDeep};
+ghost use Rattle.fed_redaction.specs.Event.{event_in};
 ghost use Rattle.fed_redaction.specs.EventId.{signed_text_of, event_id_of};
 ghost use Rattle.fed_event.specs.Reading.{read_of};
 ghost use Rattle.fed_redaction.specs.ContentHash.{hash_fits_of};
@@ -12,11 +13,11 @@ ghost use Rattle.fed_event.specs.Tests.{fails, shape_tests, first_fault_of};
 use crate::fault::PduFault;
 use crate::validity::{first_fault, later_fault, shape_fault};
 use fed_json::{Json, JsonFault, MAX_LEVELS, NoMemory, canonical, read_within};
-use fed_redaction::{EventId, Texts, covered_text, event_id_of_signed, hash_fits, redact};
+use fed_redaction::{EventId, Texts, Version, covered_text, event_id_of_signed, hash_fits, redact};
 use std::alloc::Global;
 use std::marker::Model;
 
-/// An event (room version 10, "Event format") that has passed these tests, in this order: it nests at most `MAX_DEPTH` levels; it
+/// An event (room versions 10 and 11, "Event format") that has passed these tests, in this order: it nests at most `MAX_DEPTH` levels; it
 /// is an object; its canonical text has at most `MAX_SIZE` bytes; it has every field but perhaps `state_key`; each field has a value
 /// of its kind; no text of `room_id`, `sender`, `state_key` and `type` has more than `MAX_TEXT` bytes; `auth_events` has at most
 /// `MAX_AUTH_EVENTS` ids and `prev_events` at most `MAX_PREV_EVENTS`.
@@ -25,9 +26,11 @@ use std::marker::Model;
 /// `origin_server_ts` whole numbers, and the others texts, of which `room_id` begins with `!`, `sender` with `@`, and both have a
 /// colon.
 ///
-/// Contracts see it as its JSON value.
+/// It keeps the version of the room that it is of, by which it is redacted and has its id. Contracts see it as its JSON value and that
+/// version.
 #[derive(Drop)]
 pub struct Pdu {
+    version: Version,
     json: Json,
     id: EventId,
     hash_fits: bool,
@@ -35,36 +38,36 @@ pub struct Pdu {
 
 impl Model for Pdu {
     ghost use Rattle.std.specs.Prelude.{◌≡◌, None};
-    ghost use Rattle.serde_json.specs.Data.{Data};
-    ghost use Rattle.fed_json.specs.Code.{coded_data};
+    ghost use Rattle.fed_redaction.specs.Event.{Event, event_in, coded_event};
     ghost use Rattle.fed_redaction.specs.EventId.{event_id_of};
     ghost use Rattle.fed_redaction.specs.ContentHash.{hash_fits_of};
     ghost use Rattle.fed_event.specs.Tests.{first_fault_of};
 
-    ghost Value = { Data };
+    ghost Value = { Event };
 
-    ghost coded = { coded_data };
+    ghost coded = { coded_event };
 
-    ghost view = { λ p. p.json };
+    ghost view = { λ p. event_in p.version p.json };
 
-    ghost invariant = { λ p. (first_fault_of p.json ≡ None) × (p.id ≡ event_id_of p.json)
+    ghost invariant = { λ p. (first_fault_of p.json ≡ None) × (p.id ≡ event_id_of (event_in p.version p.json))
         × (p.hash_fits ≡ hash_fits_of p.json) };
 }
 
 impl Pdu {
-    /// The event that bytes are.
+    /// The event that bytes are, in a room of this version.
     ///
     /// # Errors
     ///
     /// The first of these: `NotJson` where the bytes are not UTF-8, or no JSON text of at most 127 levels; `NotCanonical` where a
     /// number is not whole or out of range; and then those of `of_json`. `Memory` where memory ran out.
-    pub fn read(alloc: Global, bytes: &[u8]) -> Result<Pdu, PduFault>
-        ensures ok { IfOk result (λ p. read_of bytes.now ≡ Ok p) }
+    pub fn read(alloc: Global, version: Version, bytes: &[u8]) -> Result<Pdu, PduFault>
+        ensures ok { IfOk result (λ p. read_of bytes.now ≡ Ok p.value) }
+        ensures version { IfOk result (λ p. p.version ≡ version) }
         ensures fault { IfErr result (λ fault. fault ≢ Memory → read_of bytes.now ≡ Err fault) }
         ensures only { IsOk (read_of bytes.now) → IsOkUnless result Memory }
     {
         match read_within(alloc, bytes, MAX_LEVELS) {
-            Ok(json) => Pdu::of_json(alloc, json),
+            Ok(json) => Pdu::of_json(alloc, version, json),
             Err(JsonFault::Memory) => Err(PduFault::Memory),
             Err(JsonFault::NotJson) => Err(PduFault::NotJson),
             Err(JsonFault::NotCanonicalValue) => Err(PduFault::NotCanonical),
@@ -72,15 +75,15 @@ impl Pdu {
         }
     }
 
-    /// The event that a value is.
+    /// The event that a value is, in a room of this version.
     ///
     /// # Errors
     ///
     /// The fault of the first test that the value fails: `TooDeep`, `WrongKind(Event)`, `TooLarge`, or the first of `Missing`, then
     /// of `WrongKind`, then of `TooLong` and then of `TooMany`, each in the order of `Field`. The first two are told without memory;
     /// the others come after the event's texts are made, and `Memory` may come in their place where memory ran out.
-    pub fn of_json(alloc: Global, json: Json) -> Result<Pdu, PduFault>
-        ensures ok { IfOk result (λ p. p ≡ json) }
+    pub fn of_json(alloc: Global, version: Version, json: Json) -> Result<Pdu, PduFault>
+        ensures ok { IfOk result (λ p. p ≡ event_in version json) }
         ensures passes { IfOk result (λ _. first_fault_of json ≡ None) }
         ensures fails { IfErr result (λ e. e ≢ Memory → first_fault_of json ≡ Some e) }
         ensures only { IsNone (first_fault_of json) → IsOkUnless result Memory }
@@ -91,35 +94,41 @@ impl Pdu {
         if let Some(fault) = shape_fault(&json) {
             return Err(fault);
         }
-        let texts = Texts::of(alloc, &json)?;
+        let texts = Texts::of(alloc, version, &json)?;
         let id = event_id_of_signed(alloc, texts.signed())?;
-        Pdu::of_shape(json, &texts, id)
+        Pdu::of_shape(version, json, &texts, id)
     }
 
-    /// The event that a value is, whose texts are `texts` and whose id is `id`: for a caller that has both. It takes no memory.
+    /// The event that a value is in a room of this version, whose texts are `texts` and whose id is `id`: for a caller that has both. It
+    /// takes no memory.
     ///
     /// # Errors
     ///
     /// Those of `of_json` but `Memory`.
-    pub fn with_texts(json: Json, texts: &Texts, id: EventId) -> Result<Pdu, PduFault>
-        requires texts { texts.now ≡ event_texts json }
-        requires id { id ≡ event_id_of json }
-        ensures ok { IfOk result (λ p. p ≡ json) }
+    pub fn with_texts(
+        version: Version,
+        json: Json,
+        texts: &Texts,
+        id: EventId,
+    ) -> Result<Pdu, PduFault>
+        requires texts { texts.now ≡ event_texts (event_in version json) }
+        requires id { id ≡ event_id_of (event_in version json) }
+        ensures ok { IfOk result (λ p. p ≡ event_in version json) }
         ensures passes { IfOk result (λ _. first_fault_of json ≡ None) }
         ensures fails { IfErr result (λ e. first_fault_of json ≡ Some e) }
     {
         match shape_fault(&json) {
             Some(fault) => Err(fault),
-            None => Pdu::of_shape(json, texts, id),
+            None => Pdu::of_shape(version, json, texts, id),
         }
     }
 
     // The same, of a value that has passed the tests of its shape.
-    fn of_shape(json: Json, texts: &Texts, id: EventId) -> Result<Pdu, PduFault>
+    fn of_shape(version: Version, json: Json, texts: &Texts, id: EventId) -> Result<Pdu, PduFault>
         requires shape { find (fails json) shape_tests ≡ None }
-        requires texts { texts.now ≡ event_texts json }
-        requires id { id ≡ event_id_of json }
-        ensures ok { IfOk result (λ p. p ≡ json) }
+        requires texts { texts.now ≡ event_texts (event_in version json) }
+        requires id { id ≡ event_id_of (event_in version json) }
+        ensures ok { IfOk result (λ p. p ≡ event_in version json) }
         ensures passes { IfOk result (λ _. first_fault_of json ≡ None) }
         ensures fails { IfErr result (λ e. first_fault_of json ≡ Some e) }
     {
@@ -128,17 +137,23 @@ impl Pdu {
         }
         let hash_fits = hash_fits(&json, texts.covered());
         Ok(Pdu {
+            version,
             json,
             id,
             hash_fits,
         })
     }
 
-    // The event that a value is, whose signed text is `signed` and whose content hash fits where it is an event.
-    pub(crate) fn of_fitting(alloc: Global, json: Json, signed: &[u8]) -> Result<Pdu, PduFault>
-        requires signed { signed.now ≡ signed_text_of json }
+    // The event that a value is in a room of this version, whose signed text is `signed` and whose content hash fits where it is an event.
+    pub(crate) fn of_fitting(
+        alloc: Global,
+        version: Version,
+        json: Json,
+        signed: &[u8],
+    ) -> Result<Pdu, PduFault>
+        requires signed { signed.now ≡ signed_text_of (event_in version json) }
         requires fits { first_fault_of json ≡ None → hash_fits_of json ≡ true }
-        ensures ok { IfOk result (λ p. p ≡ json) }
+        ensures ok { IfOk result (λ p. p ≡ event_in version json) }
         ensures passes { IfOk result (λ _. first_fault_of json ≡ None) }
         ensures fails { IfErr result (λ e. e ≢ Memory → first_fault_of json ≡ Some e) }
     {
@@ -148,6 +163,7 @@ impl Pdu {
         }
         let id = event_id_of_signed(alloc, signed)?;
         Ok(Pdu {
+            version,
             json,
             id,
             hash_fits: true,
@@ -157,7 +173,7 @@ impl Pdu {
     /// Whether the content hash that the event gives at `hashes.sha256` is the one that it has (Server-Server API, "Calculating the
     /// content hash for an event").
     pub fn hash_fits(&self) -> bool
-        ensures { result ≡ hash_fits_of self.now }
+        ensures { result ≡ hash_fits_of self.now.value }
     {
         self.hash_fits
     }
@@ -166,14 +182,22 @@ impl Pdu {
     pub(crate) fn redacted(&self, alloc: Global) -> Result<Pdu, NoMemory>
         ensures { IfOk result (λ p. p ≡ redacted self.now) }
     {
-        let json = redact(alloc, &self.json)?;
+        let json = redact(alloc, self.version, &self.json)?;
         let id = self.id.copy(alloc)?;
         let hash_fits = hash_fits(&json, &covered_text(alloc, &json)?);
         Ok(Pdu {
+            version: self.version,
             json,
             id,
             hash_fits,
         })
+    }
+
+    /// The version of the room that the event is of.
+    pub fn version(&self) -> Version
+        ensures { result ≡ self.now.version }
+    {
+        self.version
     }
 
     /// The id.
@@ -185,16 +209,16 @@ impl Pdu {
 
     /// The value.
     pub fn json(&self) -> &Json
-        ensures value { result.now ≡ self.now }
-        ensures passes { first_fault_of self.now ≡ None }
+        ensures value { result.now ≡ self.now.value }
+        ensures passes { first_fault_of self.now.value ≡ None }
     {
         &self.json
     }
 
     /// The value, to keep.
     pub fn into_json(self) -> Json
-        ensures value { result ≡ self }
-        ensures passes { first_fault_of self ≡ None }
+        ensures value { result ≡ self.value }
+        ensures passes { first_fault_of self.value ≡ None }
     {
         let Pdu { json, .. } = self;
         json
@@ -207,6 +231,7 @@ impl Pdu {
         let json = self.json.copy()?;
         let id = self.id.copy(alloc)?;
         Ok(Pdu {
+            version: self.version,
             json,
             id,
             hash_fits: self.hash_fits,
@@ -214,32 +239,33 @@ impl Pdu {
     }
 }
 
-/// Events are equal where their JSON values are. It takes no memory.
+/// Events are equal where their versions and their JSON values are. It takes no memory.
 impl PartialEq for Pdu {
-    ghost use Rattle.std.specs.Prelude.{◌≡◌, ◌↔◌, IsTrue};
+    ghost use Rattle.std.specs.Prelude.{◌≡◌, ◌↔◌, IsTrue, bytes_eq};
     ghost use Rattle.std.specs.Cmp.{on_per, partial_equiv_from_equiv};
     ghost use Rattle.std.specs.Cmp.Lexicographic.{nat_list_eq_equiv};
-    ghost use Rattle.fed_json.specs.CanonicalText.{canonical_text, have_one_text};
     ghost use Rattle.fed_json.specs.Profile.{IsProfile};
+    ghost use Rattle.fed_event.specs.Checked.{event_text};
 
-    ghost eq = { have_one_text };
+    ghost eq = { λ x y. bytes_eq (event_text x) (event_text y) };
 
-    ghost laws = { on_per canonical_text (partial_equiv_from_equiv nat_list_eq_equiv) };
+    ghost laws = { on_per event_text (partial_equiv_from_equiv nat_list_eq_equiv) };
 
     fn eq(&self, other: &Pdu) -> bool
-        ensures texts { result ≡ have_one_text self.now other.now }
+        ensures texts { result ≡ bytes_eq (event_text self.now) (event_text other.now) }
         ensures same { IsTrue result ↔ (self.now ≡ other.now) }
-        ensures one { IsProfile self.now }
-        ensures another { IsProfile other.now }
+        ensures one { IsProfile self.now.value }
+        ensures another { IsProfile other.now.value }
     {
-        self.json == other.json
+        let is_same_value = self.json == other.json;
+        is_same_value && self.version == other.version
     }
 }
 
 impl Eq for Pdu {
     ghost use Rattle.std.specs.Cmp.{on_equiv};
     ghost use Rattle.std.specs.Cmp.Lexicographic.{nat_list_eq_equiv};
-    ghost use Rattle.fed_json.specs.CanonicalText.{canonical_text};
+    ghost use Rattle.fed_event.specs.Checked.{event_text};
 
-    ghost laws = { on_equiv canonical_text nat_list_eq_equiv };
+    ghost laws = { on_equiv event_text nat_list_eq_equiv };
 }

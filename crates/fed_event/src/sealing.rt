@@ -1,16 +1,16 @@
 // Events that the own server makes.
-ghost use Rattle.std.specs.Prelude.{◌≡◌, ◌≢◌, ◌<◌, ◌↔◌, true, Some, None, IsTrue, IfOk, IfErr, OnOk, string_bytes, option_map};
+ghost use Rattle.std.specs.Prelude.{◌≡◌, ◌≢◌, ◌<◌, ◌↔◌, true, Some, None, IsTrue, IfOk, IfErr, OnOk, string_bytes, option_map, codes};
 ghost use Rattle.base64.specs.Engines.{standard_no_pad};
 ghost use Rattle.base64.specs.GeneralPurpose.{encode_of};
 ghost use Rattle.serde_json.specs.Data.{depth, string};
 ghost use Rattle.serde_json.specs.Read.{max_depth};
+ghost use Rattle.fed_json.specs.Editing.{with_member};
 ghost use Rattle.fed_event.specs.declared.fault.PduFault.TheVariants.{Memory};
-ghost use Rattle.fed_redaction.specs.EventId.{signed_text_of};
 ghost use Rattle.fed_redaction.specs.ContentHash.{hash_fits_of};
 ghost use Rattle.fed_event.specs.Signatures.{signature_in, is_signed};
 ghost use Rattle.fed_event.specs.Checked.{checked_of};
 ghost use Rattle.fed_event.specs.Tests.{first_fault_of};
-ghost use Rattle.fed_event.specs.Sealing.{sender_text, IsSentBy, holding as object_holding, hashed_of, signature_text_of, signed_of, sealed_of};
+ghost use Rattle.fed_event.specs.Sealing.{sender_text, IsSentBy, holding as object_holding, hashed_of, sealed_of};
 
 use crate::checked::{CheckFault, Checked, check_signed};
 use crate::fault::PduFault;
@@ -19,7 +19,7 @@ use crate::pdu::Pdu;
 use base64::engine::general_purpose::STANDARD_NO_PAD;
 use fed_json::{Json, NoMemory};
 use fed_keys::Keys;
-use fed_redaction::{content_hash, signed_text};
+use fed_redaction::{Version, content_hash, signed_text};
 use std::alloc::Global;
 
 /// Whether the sender of an event, where there is one that is a text, is a user of this server.
@@ -39,7 +39,7 @@ fn sender(event: &Json) -> Option<&str>
     event.member("sender")?.text()
 }
 
-/// The event of these parts that the own server sends (Server-Server API, "Adding hashes and signatures to outgoing events"): with its
+/// The event of these parts in a room of this version that the own server sends (Server-Server API, "Adding hashes and signatures to outgoing events"): with its
 /// content hash at `hashes.sha256`, and then the own signature at `signatures`, under the own name and that of the own key. What
 /// `parts` has under these two names is replaced. The event passes `check_in` under the same keys and stays as it is there.
 ///
@@ -47,22 +47,27 @@ fn sender(event: &Json) -> Option<&str>
 ///
 /// Those of `Pdu::of_json` on the event with its hash and signature, where `Memory` may come in the place of each other one. Where
 /// `parts` is no object, it is left as it is.
-pub fn seal<K: Keys>(alloc: Global, parts: Json, keys: &K) -> Result<Checked, PduFault>
+pub fn seal<K: Keys>(
+    alloc: Global,
+    version: Version,
+    parts: Json,
+    keys: &K,
+) -> Result<Checked, PduFault>
     requires { IsSentBy (K.own_name keys.now) parts }
-    ensures event { let sealed = sealed_of (K.own_name keys.now) (K.own_key keys.now) (K.own_signature keys.now) parts in
+    ensures event { let sealed = sealed_of (K.own_name keys.now) (K.own_key keys.now) (K.own_signature keys.now) version parts in
         IfOk result (λ c. c.event ≡ sealed) }
-    ensures fits { IfOk result (λ c. hash_fits_of c.event ≡ true) }
+    ensures fits { IfOk result (λ c. hash_fits_of c.event.value ≡ true) }
     ensures signed { IfOk result (λ c. is_signed (K.checks keys.now) c.event ≡ true) }
     ensures checked { IfOk result (λ c. c ≡ checked_of (K.checks keys.now) c.event) }
-    ensures passes { let sealed = sealed_of (K.own_name keys.now) (K.own_key keys.now) (K.own_signature keys.now) parts in
-        OnOk result (first_fault_of sealed ≡ None) }
-    ensures fails { let sealed = sealed_of (K.own_name keys.now) (K.own_key keys.now) (K.own_signature keys.now) parts in
-        IfErr result (λ e. e ≢ Memory → first_fault_of sealed ≡ Some e) }
+    ensures passes { let sealed = sealed_of (K.own_name keys.now) (K.own_key keys.now) (K.own_signature keys.now) version parts in
+        OnOk result (first_fault_of sealed.value ≡ None) }
+    ensures fails { let sealed = sealed_of (K.own_name keys.now) (K.own_key keys.now) (K.own_signature keys.now) version parts in
+        IfErr result (λ e. e ≢ Memory → first_fault_of sealed.value ≡ Some e) }
 {
     let hashed = hashed(alloc, parts)?;
-    let signed_text = signed_text(alloc, &hashed)?;
+    let signed_text = signed_text(alloc, version, &hashed)?;
     let event = signed(alloc, hashed, &signed_text, keys)?;
-    let event = Pdu::of_fitting(alloc, event, &signed_text)?;
+    let event = Pdu::of_fitting(alloc, version, event, &signed_text)?;
     match check_signed(alloc, event, &signed_text, keys) {
         Ok(checked) => Ok(checked),
         Err(CheckFault::Memory) => Err(PduFault::Memory),
@@ -81,18 +86,18 @@ fn hashed(alloc: Global, parts: Json) -> Result<Json, NoMemory>
     Ok(event)
 }
 
-// The event with the own signature, which decodes. No signature covers `signatures`, so the signed text is that of both.
+// The event with the own signature of this text, which decodes.
 fn signed<K: Keys>(
     alloc: Global,
     event: Json,
     signed_text: &[u8],
     keys: &K,
 ) -> Result<Json, NoMemory>
-    requires { signed_text.now ≡ signed_text_of event }
-    ensures event { IfOk result (λ signed. signed
-        ≡ signed_of (K.own_name keys.now) (K.own_key keys.now) (K.own_signature keys.now) event) }
-    ensures decodes { OnOk result (signature_in (string (signature_text_of (K.own_signature keys.now) event))
-        ≡ Some (K.own_signature keys.now (signed_text_of event))) }
+    ensures event { let signature = encode_of standard_no_pad (K.own_signature keys.now signed_text.now) in
+        let signatures = object_holding (K.own_name keys.now) (object_holding (K.own_key keys.now) (string signature)) in
+        IfOk result (λ signed. signed ≡ with_member (codes "signatures") signatures event) }
+    ensures decodes { let signature = K.own_signature keys.now signed_text.now in
+        OnOk result (signature_in (string (encode_of standard_no_pad signature)) ≡ Some signature) }
 {
     let mut event = event;
     let signature = Json::from(signature_text(alloc, signed_text, keys)?);

@@ -2,8 +2,7 @@
 ghost use Rattle.std.specs.Prelude.{◌≡◌, [], unwrap_or, option_map};
 ghost use Rattle.fed_json.specs.JsonRef.{seen};
 ghost use Rattle.fed_json.specs.Members.{members_left};
-ghost use Rattle.fed_redaction.specs.EventId.{signed_text_of};
-ghost use Rattle.fed_event.specs.Signatures.{signature_in, signatures_by as signatures_of_server, is_signed_by as is_signed_by_server};
+ghost use Rattle.fed_event.specs.Signatures.{signature_in, signatures_by as signatures_of_server, has_signature};
 
 use base64::engine::general_purpose::STANDARD_NO_PAD;
 use fed_json::{Json, JsonRef, Members};
@@ -25,8 +24,7 @@ pub fn signature_of(value: JsonRef<'_>) -> Option<[u8; 64]>
 /// Whether some key of the server has signed the event, whose signed text is `signed`: at `signatures`, under the name of the server
 /// and that of the key, stands a signature that checks. What stands there and is no signature counts for nothing.
 pub fn is_signed_by<K: Keys>(keys: &K, server: &str, event: &Json, signed: &[u8]) -> bool
-    requires { signed.now ≡ signed_text_of event.now }
-    ensures { result ≡ is_signed_by_server (K.checks keys.now) server.now event.now }
+    ensures { result ≡ has_signature (K.checks keys.now) server.now signed.now event.now }
 {
     let Some(signatures) = signatures_by(server, event) else {
         return false;

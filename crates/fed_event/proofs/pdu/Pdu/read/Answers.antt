@@ -6,7 +6,7 @@ pub unreachable-requires : goal.unreachable-requires
 unreachable-requires c = past_all c.args.bytes.now (c.in-Err-TooDeep.ensures.too_deep (ap Err c.in-Err-TooDeep.field-0-is))
 
 pub returns-in-Ok-clause-ok : goal.returns-in-Ok-clause-ok
-returns-in-Ok-clause-ok c = read-event c.args.bytes.now c.in-Ok.json c.of_json.result c.in-Ok.ensures.ok c.of_json.ensures.ok c.of_json.ensures.passes
+returns-in-Ok-clause-ok c = read-event c.args.version c.args.bytes.now c.in-Ok.json c.of_json.result c.in-Ok.ensures.ok c.of_json.ensures.ok c.of_json.ensures.passes
 
 pub returns-in-Ok-clause-fault : goal.returns-in-Ok-clause-fault
 returns-in-Ok-clause-fault c = read-fault c.args.bytes.now c.in-Ok.json c.of_json.result c.in-Ok.ensures.ok c.of_json.ensures.fails
