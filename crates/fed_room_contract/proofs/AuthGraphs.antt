@@ -2,14 +2,14 @@
 use Rattle.std.proofs.Common.{◌≡◌, List, [], ◌∷◌, ◌++◌, append_assoc, true, sym, ap, subst, ◌∙◌, ◌⊎◌, inl, inr}
 use Rattle.std.proofs.lemmas.Bool.{and_parts}
 use Rattle.std.proofs.lemmas.List.Folds.{list_all-append}
-use Rattle.serde_json.specs.Data.{Data}
+use Rattle.fed_event.specs.Event.{Event}
 use Rattle.fed_event.specs.Fields.{auth_events_of, prev_events_of}
 use Rattle.fed_room_contract.specs.declared.graph.Stored.{Stored}
 use Rattle.fed_room_contract.specs.Graph.{IsGraph, IsAuthGraph, IsAuthNext, is_stored, is_ready, has_auths}
 use Rattle.fed_room_contract.proofs.Graphs.{split}
 
 -- what is ready has its auth events
-pub ready_has_auths : (xs : List Stored) (event : Data) → is_ready xs event ≡ true → has_auths xs event ≡ true
+pub ready_has_auths : (xs : List Stored) (event : Event) → is_ready xs event ≡ true → has_auths xs event ≡ true
 ready_has_auths xs event h = (and_parts _ _ (sym (list_all-append (is_stored xs) (prev_events_of event) (auth_events_of event)) ∙ h)).1
 
 -- a graph is one by auth events

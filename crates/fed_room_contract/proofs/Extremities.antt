@@ -6,7 +6,7 @@ use Rattle.std.proofs.lemmas.List.Folds.{list_any-append}
 use Rattle.std.proofs.lemmas.Slice.Eq.{bytes_eq-Decides}
 use Rattle.std.specs.List.{list_any, list_all}
 use Rattle.std.specs.Str.{bytes_eq}
-use Rattle.serde_json.specs.Data.{Data}
+use Rattle.fed_event.specs.Event.{Event}
 use Rattle.fed_event.specs.Fields.{prev_events_of}
 use Rattle.fed_room_contract.specs.declared.graph.Stored.{Stored}
 use Rattle.fed_room_contract.specs.Graph.{IsGraph, IsNext, id_of, is_stored, is_ready}
@@ -26,7 +26,7 @@ no_name xs id (i ∷ ids) more h new = by (bytes_eq i id) refl (is_stored xs i) 
     by false t true s h later = later h new
     by false t false s h later = absurd (true≢false (sym h))
 
-not_named : (xs : List Stored) (event : Data) (id : List ℕ) → is_ready xs event ≡ true → is_stored xs id ≡ false → names event id ≡ false
+not_named : (xs : List Stored) (event : Event) (id : List ℕ) → is_ready xs event ≡ true → is_stored xs id ≡ false → names event id ≡ false
 not_named xs event id h new = no_name xs id (prev_events_of event) _ h new
 
 follows_not : (accepted named : Bool) → named ≡ false → (accepted && named) ≡ false

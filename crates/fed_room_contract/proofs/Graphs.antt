@@ -6,7 +6,7 @@ use Rattle.std.specs.List.{position, list_all}
 use Rattle.std.specs.Str.{bytes_eq}
 use Rattle.std.specs.Ordering.{eq_by_cmp}
 use Rattle.std.specs.Cmp.Lexicographic.{slice_cmp, nat_list_cmp_total}
-use Rattle.serde_json.specs.Data.{Data}
+use Rattle.fed_event.specs.Event.{Event}
 use Rattle.fed_event.specs.Fields.{auth_events_of}
 use Rattle.fed_room_contract.specs.declared.graph.Stored.{Stored}
 use Rattle.fed_room_contract.specs.Places.{PlaceMap, place_in, place_at}
@@ -100,10 +100,10 @@ is_stored-++ (x ∷ xs) ys id h = by (has_id id x) h (is_stored-++ xs ys id)
     by true t more = refl
     by false t more = more t
 
-pub ready_stays : (xs ys : List Stored) (event : Data) → is_ready xs event ≡ true → is_ready (xs ++ ys) event ≡ true
+pub ready_stays : (xs ys : List Stored) (event : Event) → is_ready xs event ≡ true → is_ready (xs ++ ys) event ≡ true
 ready_stays xs ys event h = list_all_more (is_stored xs) (is_stored (xs ++ ys)) (λ id t. is_stored-++ xs ys id t) (named_by event) h
 
-pub auths_stay : (xs ys : List Stored) (event : Data) → has_auths xs event ≡ true → has_auths (xs ++ ys) event ≡ true
+pub auths_stay : (xs ys : List Stored) (event : Event) → has_auths xs event ≡ true → has_auths (xs ++ ys) event ≡ true
 auths_stay xs ys event h = list_all_more (is_stored xs) (is_stored (xs ++ ys)) (λ id t. is_stored-++ xs ys id t) (auth_events_of event) h
 
 pub stored_at-++ : (xs ys : List Stored) (id : List ℕ) (s : Stored) → stored_at xs id ≡ Some s → stored_at (xs ++ ys) id ≡ Some s

@@ -3,6 +3,7 @@ use Rattle.std.specs.Prelude.{◌≡◌, ℕ, pos, List, Option, refl}
 use Rattle.std.specs.Coded.{Coded, code_by, coded×, coded_ℕ, coded_list, coded_option}
 use Rattle.serde_json.specs.Data.{Data}
 use Rattle.fed_json.specs.Code.{coded_data}
+use Rattle.fed_event.specs.Event.{Event}
 use Rattle.fed_event.specs.Fields.{content_of, kind_of, origin_server_ts_of, room_id_of, sender_of, state_key_of}
 
 pub record DraftFields : Type 0 where
@@ -25,7 +26,7 @@ draft_code =
     (λ _. refl)
 
 -- an event has the fields of the draft
-pub record Bears (draft : DraftFields) (event : Data) : Type 0 where
+pub record Bears (draft : DraftFields) (event : Event) : Type 0 where
   pub room : room_id_of event ≡ draft.room
   pub sender : sender_of event ≡ draft.sender
   pub kind : kind_of event ≡ draft.kind

@@ -3,7 +3,7 @@
 use Rattle.std.specs.Prelude.{◌≡◌, ℕ, List, [], ◌∷◌, ◌++◌, Bool, true, false, Option, None, Some, find, position, slice_get}
 use Rattle.std.specs.List.{list_any, list_all, filter_map}
 use Rattle.std.specs.Str.{bytes_eq}
-use Rattle.serde_json.specs.Data.{Data}
+use Rattle.fed_event.specs.Event.{Event}
 use Rattle.fed_event.specs.EventId.{event_id_of}
 use Rattle.fed_event.specs.Fields.{auth_events_of, prev_events_of}
 use Rattle.fed_room_contract.specs.declared.graph.Stored.{Stored}
@@ -37,15 +37,15 @@ abbrev pub auth_places_at : List Stored → ℕ → List ℕ
 auth_places_at events place = links_in (auth_links events) (slice_get events place)
 
 -- the events that this one names
-abbrev pub named_by : Data → List (List ℕ)
+abbrev pub named_by : Event → List (List ℕ)
 named_by event = prev_events_of event ++ auth_events_of event
 
 -- all that it names is stored
-abbrev pub is_ready : List Stored → Data → Bool
+abbrev pub is_ready : List Stored → Event → Bool
 is_ready events event = list_all (is_stored events) (named_by event)
 
 -- all its auth events are stored
-abbrev pub has_auths : List Stored → Data → Bool
+abbrev pub has_auths : List Stored → Event → Bool
 has_auths events event = list_all (is_stored events) (auth_events_of event)
 
 -- an event that comes next: it is another one than those before it, and names only these

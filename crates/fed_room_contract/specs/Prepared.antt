@@ -2,7 +2,7 @@
 use Rattle.std.specs.Prelude.{ℕ, List, Bool, ◌&&◌, Option, Some, None, Result, Ok, Err, refl, if◌then◌else◌}
 use Rattle.std.specs.Coded.{Coded, code_by, coded×}
 use Rattle.std.specs.Str.{bytes_eq}
-use Rattle.serde_json.specs.Data.{Data}
+use Rattle.fed_event.specs.Event.{Event}
 use Rattle.fed_event.specs.declared.fault.PduFault.{PduFault}
 use Rattle.fed_event.specs.declared.fault.PduFault.TheVariants as fault
 use Rattle.fed_event.specs.Ids.{is_user_id, domain_of}
@@ -44,9 +44,9 @@ signer_of name key sign checks = record { name = name; key = key; sign = sign; c
 abbrev pub is_own_user : List ℕ → List ℕ → Bool
 is_own_user own sender = is_user_id sender && bytes_eq (domain_of sender) own
 
--- the event of these fields, with its hash and the own signature
-abbrev pub sealed_by : Signer → Data → Data
-sealed_by signer parts = sealed_of signer.name signer.key signer.sign parts
+-- the event with its hash and the own signature
+abbrev pub sealed_by : Signer → Event → Event
+sealed_by signer parts = sealed_of signer.name signer.key signer.sign parts.version parts.value
 
 -- why nothing is made where what is made is no event
 abbrev pub refusal_of : PduFault → Refusal
@@ -64,12 +64,12 @@ module _ (rules : Rules) (signer : Signer) (events : List Stored) where
   if_allowed event = if_accepted event (rules.decide events event)
 
   -- what is sealed has to pass the tests of an event
-  abbrev pub if_event : Data → Option PduFault → Result PreparedEvent Refusal
+  abbrev pub if_event : Event → Option PduFault → Result PreparedEvent Refusal
   if_event sealed (Some fault) = Err (BadDraft fault)
   if_event sealed None = if_allowed (checked_of signer.checks sealed)
 
-  abbrev pub if_sealed : Data → Result PreparedEvent Refusal
-  if_sealed sealed = if_event sealed (first_fault_of sealed)
+  abbrev pub if_sealed : Event → Result PreparedEvent Refusal
+  if_sealed sealed = if_event sealed (first_fault_of sealed.value)
 
   -- the event that the room makes of a draft, or the first reason against it
   abbrev pub prepared_of : DraftFields → Result PreparedEvent Refusal

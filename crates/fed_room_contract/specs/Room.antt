@@ -3,7 +3,9 @@
 use Rattle.std.specs.Prelude.{ℕ, ◌+◌, ◌-◌, ◌^◌, List, [], ◌∷◌, ◌++◌, Bool, true, false, ◌&&◌, ◌||◌, not, Option, Some, None, filter, find, length, map, min, nat_lt, if◌then◌else◌}
 use Rattle.std.specs.List.{list_any, list_all}
 use Rattle.std.specs.Str.{bytes_eq}
-use Rattle.serde_json.specs.Data.{Data}
+use Rattle.fed_event.specs.Event.{Event}
+use Rattle.fed_redaction.specs.declared.version.Version.{Version}
+use Rattle.fed_redaction.specs.declared.version.Version.TheVariants.{V10}
 use Rattle.fed_event.specs.EventId.{event_id_of}
 use Rattle.fed_event.specs.Fields.{prev_events_of}
 use Rattle.fed_event.specs.Checked.{CheckedEvent}
@@ -23,12 +25,17 @@ pub record RoomState : Type 0 where
   pub dropped : ℕ
 
 -- what a room goes by, given the events that it has stored: its verdict on an event, the state before an event, the current state, and
--- the fields of the event that it makes of a draft
+-- the event that it makes of a draft, but for its hash and signature
 pub record Rules : Type 0 where
   pub decide : List Stored → CheckedEvent → Verdict
-  pub before : List Stored → Data → StateMap
+  pub before : List Stored → Event → StateMap
   pub current : List Stored → StateMap
-  pub parts : List Stored → DraftFields → Data
+  pub parts : List Stored → DraftFields → Event
+
+-- the version of a room: that of its first event, and 10 where it has none
+abbrev pub version_of : List Stored → Version
+version_of [] = V10
+version_of (first ∷ later) = first.event.event.version
 
 -- a room in which nothing is stored and nothing waits
 abbrev pub empty_room : RoomState
@@ -127,7 +134,7 @@ rule_of (Rejected rule) = Some rule
 rule_of (SoftFailed rule) = Some rule
 
 -- an event that names the event of this id as a prev event
-abbrev pub names : Data → List ℕ → Bool
+abbrev pub names : Event → List ℕ → Bool
 names event id = list_any (λ prev. bytes_eq prev id) (prev_events_of event)
 
 -- an accepted event that follows the event of this id

@@ -1,7 +1,7 @@
 // What holds of all states and graphs.
 ghost use Rattle.std.specs.Prelude.{◌≡◌, ◌≢◌, ℕ, List, [], ◌∷◌, ◌++◌, ◌||◌, Some, None, false, true};
 ghost use Rattle.std.specs.FinMap as finite;
-ghost use Rattle.serde_json.specs.Data.{Data};
+ghost use Rattle.fed_event.specs.Event.{Event};
 ghost use Rattle.fed_event.specs.Checked.{CheckedEvent};
 ghost use Rattle.fed_room_contract.specs.declared.graph.Stored.{Stored};
 ghost use Rattle.fed_room_contract.specs.declared.input.Input.{Input};
@@ -31,7 +31,7 @@ pub fn stored_events_stay()
         → stored_at (events ++ next ∷ []) (id_of next) ≡ Some next }
     ensures others { (events : List Stored) (next : Stored) (id : List ℕ) → id ≢ id_of next
         → stored_at (events ++ next ∷ []) id ≡ stored_at events id }
-    ensures ready { (events more : List Stored) (event : Data) → is_ready events event ≡ true → is_ready (events ++ more) event ≡ true }
+    ensures ready { (events more : List Stored) (event : Event) → is_ready events event ≡ true → is_ready (events ++ more) event ≡ true }
 {}
 
 /// A graph grows by an event that comes next, and by no other.

@@ -12,7 +12,7 @@ use crate::graph::{Graph, Stored};
 use crate::lacks::{first_none, lack_of, renew, tag_of_id};
 use crate::receipt::Receipt;
 use crate::verdict::Verdict;
-use fed_event::{Checked, EventId, Pdu};
+use fed_event::{Checked, EventId, Pdu, Version};
 use fed_json::NoMemory;
 use std::alloc::Global;
 use std::marker::Model;
@@ -51,7 +51,7 @@ impl EventStore {
     ghost use Rattle.std.specs.Prelude.{true, false, None, Some, IfOk, IfErr, IfSome, IsOk, OnOk, OnErr, MatchOption, slice_get, option_map};
     ghost use Rattle.fed_room_contract.specs.declared.receipt.Receipt.TheVariants as receipt;
     ghost use Rattle.fed_room_contract.specs.Graph.{IsGraph, is_stored, stored_at};
-    ghost use Rattle.fed_room_contract.specs.Room.{Rules, event_id, is_known, receipt_of, first_ready, empty_room, extremities_of};
+    ghost use Rattle.fed_room_contract.specs.Room.{Rules, event_id, is_known, receipt_of, first_ready, empty_room, extremities_of, version_of};
     ghost use Rattle.fed_room_contract.specs.Store.{with_room_for, after_store};
     ghost use Rattle.fed_room_contract.specs.Arrival.{IsArrival, IsFirstReady};
 
@@ -95,6 +95,16 @@ impl EventStore {
         ensures { result ≡ self.now.room.dropped }
     {
         self.dropped
+    }
+
+    /// The version of the room: that of its first event, and 10 where it has none.
+    pub fn version(&self) -> Version
+        ensures { result ≡ version_of self.now.room.stored }
+    {
+        match self.graph.events().first() {
+            Some(first) => first.event.event().version(),
+            None => Version::V10,
+        }
     }
 
     /// The forward extremities, in the order of storing.

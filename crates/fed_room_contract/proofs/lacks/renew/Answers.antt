@@ -1,7 +1,7 @@
 use Rattle.std.proofs.Common.{rules, ◌≡◌, map, List, ℕ, suc, ◌+◌, ◌<◌, length, false, Option, Some, None, get_or, refl, sym, ap, ◌∙◌, subst, arith, add-one, eq-eqb, true≢false, nat_eq}
 use Rattle.std.specs.Option.{option_eq}
 use Rattle.std.proofs.lemmas.List.{length-map, get_or-map, set-get_or}
-use Rattle.serde_json.specs.Data.{Data}
+use Rattle.fed_event.specs.Event.{Event}
 use Rattle.fed_room_contract.specs.Graph.{named_by}
 use Rattle.fed_room_contract.specs.LackParts.{lack_among, lack_of, AreRight}
 use Rattle.fed_room_contract.proofs.LackLists.{right_length, all_right, one_more_right, set_right}
@@ -36,7 +36,7 @@ loop-place-preserved c =
       | then-eq w ↦
           let event = w.index-waiting-place.result in
           let right : w.lack_of.result ≡ get_or rights place w.lack_of.result =
-          w.lack_of.ensures.lack ∙ ap (λ (e : Data). lack_among stored (named_by e)) w.event.ensures.event ∙ ap (lack_of stored) w.index-waiting-place.is ∙ sym (get_or-map (lack_of stored) waiting place event w.lack_of.result below) in
+          w.lack_of.ensures.lack ∙ ap (λ (e : Event). lack_among stored (named_by e)) w.event.ensures.event ∙ ap (lack_of stored) w.index-waiting-place.is ∙ sym (get_or-map (lack_of stored) waiting place event w.lack_of.result below) in
           next _ w.lacks-is (set_right place c.args.tag rights lacks w.lack_of.result c.loop-place.invariant right)
       | else-eq w ↦
           let other : get_or lacks place None ≡ Some c.args.tag → ⊥ = not_equal _ _ (sym c.eq.ensures ∙ w.if-eq.false) in

@@ -11,7 +11,7 @@ use Rattle.fed_room_contract.proofs.links.add_auths.Goals as goal
 pub add-requires : goal.add-requires
 add-requires c =
     let event = c.args.event.now in
-    let few : length (auth_events_of event) ≤ 10 = few_texts text_in (option_and_then as_items (part AuthEvents event)) 10 (is_event event c.json-json.ensures.passes).auth_events in
+    let few : length (auth_events_of event) ≤ 10 = few_texts text_in (option_and_then as_items (part AuthEvents event.value)) 10 (is_event event.value c.json-json.ensures.passes).auth_events in
     let same = ap length c.auth_events.ensures in
     let room = c.requires.places in
     record { start = c.requires.start; places = omega arith }

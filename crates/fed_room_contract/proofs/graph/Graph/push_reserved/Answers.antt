@@ -3,8 +3,8 @@ use Rattle.std.specs.FinMap as finite
 use Rattle.std.specs.List.{position, filter_map}
 use Rattle.std.specs.Ordering.{eq_by_cmp}
 use Rattle.std.specs.Cmp.Lexicographic.{slice_cmp, nat_list_cmp_total}
+use Rattle.fed_event.specs.Event.{Event}
 use Rattle.fed_room_contract.proofs.PlaceMaps.{itself}
-use Rattle.serde_json.specs.Data.{Data}
 use Rattle.fed_event.specs.EventId.{event_id_of}
 use Rattle.fed_event.specs.Fields.{auth_events_of}
 use Rattle.fed_room_contract.specs.Places.{PlaceMap, place_at}
@@ -57,7 +57,7 @@ invariant_of-self c =
       auths =
           subst (λ (es : List Stored). AreLinks (map (auth_links es) es) c.add_auths.new.auths) (sym items)
           (subst (λ (ls : List (List ℕ)). AreLinks ls c.add_auths.new.auths) (auths-more xs last old.places c.self.invariant.graph next c.self.invariant.entered)
-          (subst (λ (e : Data). AreLinks (map (auth_links xs) xs ++ filter_map (place_at old.places) (auth_events_of e) ∷ []) c.add_auths.new.auths) event (c.add_auths.ensures (map (auth_links xs) xs) c.self.invariant.auths)));
+          (subst (λ (e : Event). AreLinks (map (auth_links xs) xs ++ filter_map (place_at old.places) (auth_events_of e) ∷ []) c.add_auths.new.auths) event (c.add_auths.ensures (map (auth_links xs) xs) c.self.invariant.auths)));
       spare_auths = taken (HasRoomFor 10 c.add_auths.new.auths);
       once = λ q h. absurd (entered_once old.places (id_of last) q (length xs) old.reserved (ap (λ (g : GraphState). g.reserved) c.self.view_is ∙ c.requires.reserved) c.self.invariant.once (ap (λ (m : PlaceMap). finite.get m q) (sym places) ∙ h));
     }

@@ -1,7 +1,7 @@
 use Rattle.std.proofs.Common.{◌≡◌, ◌++◌, ◌∷◌, [], List, ℕ, Option, IfSome, map, take, drop, length, not, filter, if◌then◌else◌, vec_len, vec_capacity, ◌<◌, Bool, true, false, refl, sym, ap, ◌∙◌, subst}
 use Rattle.std.proofs.Math.Seq.{take-append_seam}
+use Rattle.fed_event.specs.Event.{Event}
 use Rattle.fed_event.specs.EventId.{event_id_of}
-use Rattle.serde_json.specs.Data.{Data}
 use Rattle.fed_room_contract.specs.declared.graph.Stored.{Stored}
 use Rattle.fed_room_contract.specs.Graph.{IsGraph, IsNext, id_of}
 use Rattle.fed_room_contract.specs.GraphState.{GraphState}
@@ -29,7 +29,7 @@ invariant_of-self c =
     let waiting : c.forget.new.waiting.items ≡ without (id_of last) inside.waiting.items = c.forget.ensures.waiting ∙ ap (λ i. without i inside.waiting.items) id in
     let next : IsNext xs last = subst (λ (s : StoreState). IsNext s.room.stored last) (sym c.self.view_is) (record { new = c.requires.new; ready = c.requires.ready }) in
     let fewer : c.leave_followed.new.extremities.items ≡ (if is_accepted c.args.verdict then filter (λ (id : List ℕ). not (names c.args.event.event id)) inside.extremities.items else inside.extremities.items) =
-    c.leave_followed.ensures.items ∙ ap (λ (event : Data). if is_accepted c.args.verdict then filter (λ (id : List ℕ). not (names event id)) inside.extremities.items else inside.extremities.items) c.event-2.ensures.event in
+    c.leave_followed.ensures.items ∙ ap (λ (event : Event). if is_accepted c.args.verdict then filter (λ (id : List ℕ). not (names event id)) inside.extremities.items else inside.extremities.items) c.event-2.ensures.event in
     let now : c.lead.new.extremities.items ≡ (if is_accepted c.args.verdict then (filter (λ (id : List ℕ). not (names c.args.event.event id)) inside.extremities.items) ++ id_of last ∷ [] else inside.extremities.items) =
     c.lead.ensures ∙ ap (λ (i : List ℕ). if is_accepted c.args.verdict then c.leave_followed.new.extremities.items ++ i ∷ [] else c.leave_followed.new.extremities.items) c.push_reserved-id.ensures.id
     ∙ ap (λ (ids : List (List ℕ)). if is_accepted c.args.verdict then ids ++ id_of last ∷ [] else ids) fewer
