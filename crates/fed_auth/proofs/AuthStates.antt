@@ -6,13 +6,13 @@ use Rattle.std.specs.Bool.{⊤}
 use Rattle.std.specs.List.{list_any, find}
 use Rattle.std.specs.Option.{option_eq, option_or}
 use Rattle.std.specs.FinMap as finite
-use Rattle.serde_json.specs.Data.{Data}
 use Rattle.fed_room_contract.specs.declared.rule.Rule.{Rule}
 use Rattle.fed_room_contract.specs.declared.graph.Stored.{Stored}
 use Rattle.fed_room_contract.specs.State.{StateMap, key_cmp, entry_at}
 use Rattle.fed_room_contract.specs.Graph.{id_of}
 use Rattle.fed_room_contract.proofs.Positions.{is_some-find}
 use Rattle.fed_room_contract.proofs.States.{entry_at-same, entry_at-other}
+use Rattle.fed_event.specs.Event.{Event}
 use Rattle.fed_auth.specs.Table.{rule, decide, Row}
 use Rattle.fed_auth.specs.AuthState.{kind_in, state_key_in, are_alike, has_double, stands_at, with_id_at, with_stored, with_all, auth_table, answer_of}
 
@@ -76,7 +76,7 @@ abbrev after : List Row → List Row
 after [] = []
 after (row ∷ rows) = rows
 
-doubled : (event : Data) (auth : List Stored) → has_double auth ≡ true → decide (auth_table event auth) ≡ Err (rule 2 1 0)
+doubled : (event : Event) (auth : List Stored) → has_double auth ≡ true → decide (auth_table event auth) ≡ Err (rule 2 1 0)
 unfolding auth_table
 doubled event auth h = ap (λ b. cond b (Err (rule 2 1 0)) (decide (after (auth_table event auth)))) h
 
@@ -106,7 +106,7 @@ module _ (kind key : List ℕ) where
       ∙ or_none (found auth)
   entry-Ok (Err number) auth state single h = absurd (cc)
 
-  pub entry-answer : (event : Data) (auth : List Stored) (state : StateMap) → answer_of (decide (auth_table event auth)) (with_all finite.empty auth) ≡ Ok state
+  pub entry-answer : (event : Event) (auth : List Stored) (state : StateMap) → answer_of (decide (auth_table event auth)) (with_all finite.empty auth) ≡ Ok state
       → entry_at state kind key ≡ found auth
   entry-answer event auth state h = by (has_double auth) refl
     where

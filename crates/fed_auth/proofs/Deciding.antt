@@ -1,8 +1,8 @@
 -- The rules look at what the state has at the keys of the event's selection, and at nothing else of it.
 use Rattle.std.proofs.Common.{◌≡◌, ℕ, List, [], ◌∷◌, Bool, true, false, true≢false, ◌&&◌, Option, Some, None, bytes_eq, is_some, unwrap_or, if◌then◌else◌, refl, sym, ap, ◌∙◌, arith}
 use Rattle.std.specs.Prelude.{All, Err, codes, int_le, is_none, option_map, option_and_then}
-use Rattle.serde_json.specs.Data.{Data, null}
 use Rattle.serde_json.specs.Find.{get}
+use Rattle.fed_event.specs.Event.{Event}
 use Rattle.fed_event.specs.Tests.{holds}
 use Rattle.fed_event.specs.Fields.{content_of, kind_of, sender_of, state_key_of}
 use Rattle.fed_event.specs.Checked.{CheckedEvent, authorising_user_of}
@@ -19,10 +19,10 @@ use Rattle.fed_auth.specs.EventRules.{member_target, is_unauthorised, is_unfeder
 use Rattle.fed_auth.specs.CreateRules.{create_table}
 use Rattle.fed_auth.specs.Selection.{selector_of, target_of, needs_join_rules, authoriser_of, is_by_join_rules, selection_keys, entry_of, room_key, member_key}
 use Rattle.fed_auth.specs.StateView.{Look, event_in, room_levels, membership_of, room_join_rule, is_authorised_in, facts_of, create_event}
-use Rattle.fed_auth.specs.Allowed.{member_table, is_outside, other_table, room_table, rule_table, first_id, allowed_of}
+use Rattle.fed_auth.specs.Allowed.{no_event, member_table, is_outside, other_table, room_table, rule_table, first_id, allowed_of}
 
 -- two states have the same events at the keys of an event's selection
-record Alike (one other : Look) (event : Data) : Type 0 where
+record Alike (one other : Look) (event : Event) : Type 0 where
   create : one (codes "m.room.create") [] ≡ other (codes "m.room.create") []
   levels : one (codes "m.room.power_levels") [] ≡ other (codes "m.room.power_levels") []
   sender : one (codes "m.room.member") (sender_of event) ≡ other (codes "m.room.member") (sender_of event)
@@ -47,7 +47,7 @@ module _ (one other : Look) where
   unfolding room_join_rule
   rule_alike h = cc
 
-  module _ (event : Data) (alike : Alike one other event) (member : bytes_eq (kind_of event) (codes "m.room.member") ≡ true) where
+  module _ (event : Event) (alike : Alike one other event) (member : bytes_eq (kind_of event) (codes "m.room.member") ≡ true) where
     authoriser_is : (user : List ℕ) → authorising_user_of event ≡ Some user → authoriser_of (selector_of event) ≡ Some user
     unfolding authoriser_of
     authoriser_is user e = ap (λ b. if b then authorising_user_of event else None) member ∙ e
@@ -74,7 +74,7 @@ module _ (one other : Look) where
         by None e = refl
         by (Some u) e = ap (λ m. is_joined m && int_le (invite_level levels) (user_level levels u)) (member_alike u (alike.authoriser u (authoriser_is u e)))
 
-    module _ (levels : LevelsGiven) (create : Data) (user : List ℕ) (at : member_target event ≡ Some user) where
+    module _ (levels : LevelsGiven) (create : Event) (user : List ℕ) (at : member_target event ≡ Some user) where
       target_alike : membership_of one user ≡ membership_of other user
       target_alike = member_alike user (alike.target user (target_is user at))
 
@@ -105,7 +105,7 @@ module _ (one other : Look) where
       table_alike Other e = refl
 
   module _ (checked : CheckedEvent) (alike : Alike one other checked.event) where
-    member_table_alike : bytes_eq (kind_of checked.event) (codes "m.room.member") ≡ true → (levels : LevelsGiven) (create : Data)
+    member_table_alike : bytes_eq (kind_of checked.event) (codes "m.room.member") ≡ true → (levels : LevelsGiven) (create : Event)
         → decide (member_table one levels create checked) ≡ decide (member_table other levels create checked)
     unfolding member_table
     member_table_alike member levels create = by (member_target checked.event) refl
@@ -125,7 +125,7 @@ module _ (one other : Look) where
     unfolding other_table
     other_table_alike = let l = levels_alike alike.create alike.levels in let s = outside_alike (sender_of checked.event) alike.sender in let p = alike.levels in cc
 
-    room_table_alike : (create : Data) → decide (room_table one create checked) ≡ decide (room_table other create checked)
+    room_table_alike : (create : Event) → decide (room_table one create checked) ≡ decide (room_table other create checked)
     unfolding room_table
     room_table_alike create = by (bytes_eq (kind_of checked.event) (codes "m.room.member")) refl
       where
@@ -143,9 +143,9 @@ module _ (one other : Look) where
     rules_alike : (first : Option (List ℕ)) → decide (rule_table one first checked) ≡ decide (rule_table other first checked)
     unfolding rule_table
     rules_alike first =
-        ap (λ c. decide (within is_first (create_table first checked.event) ∷ reject (rule 2 4 0) (is_none c) ∷ room_table one (unwrap_or c null) checked)) alike.create
+        ap (λ c. decide (within is_first (create_table first checked.event) ∷ reject (rule 2 4 0) (is_none c) ∷ room_table one (unwrap_or c no_event) checked)) alike.create
         ∙ ap (λ r. if is_first then decide (create_table first checked.event) else (if is_none (create_event other) then Err (rule 2 4 0) else r))
-        (room_table_alike (unwrap_or (create_event other) null))
+        (room_table_alike (unwrap_or (create_event other) no_event))
       where
         is_first : Bool
         is_first = bytes_eq (kind_of checked.event) (codes "m.room.create")

@@ -4,7 +4,7 @@ use Rattle.std.proofs.lemmas.Bool.{and_parts, or_cases, or_parts, or_left, or_ri
 use Rattle.std.proofs.lemmas.List.Folds.{Any-from_list_any}
 use Rattle.std.specs.List.{list_any, cons_option, AllPairs}
 use Rattle.std.specs.Option.{option_eq}
-use Rattle.serde_json.specs.Data.{Data}
+use Rattle.fed_event.specs.Event.{Event}
 use Rattle.fed_event.specs.Tests.{holds}
 use Rattle.fed_room_contract.specs.declared.graph.Stored.{Stored}
 use Rattle.fed_room_contract.specs.State.{StateKey, StateMap, entry_at}
@@ -78,7 +78,7 @@ module _ (events : List Stored) (state : StateMap) (names : NamesOwnEvents event
 
   -- ---- none is outside the selection
 
-  module _ (event : Data) where
+  module _ (event : Event) where
     inside_one : (id : List ℕ) (auth : Stored) → Own state (selection_keys (selector_of event)) id auth → is_outside_selection event auth ≡ false
     unfolding is_outside_selection
     inside_one id auth own = ap (λ o. not (holds (λ key. list_any (holds (is_key (kind_in auth) key)) (selection_keys (selector_of event))) o)) own.at ∙ ap not own.among

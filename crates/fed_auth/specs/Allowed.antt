@@ -2,7 +2,10 @@
 -- and the id of its first event. The first that holds decides. Rule 2, on the auth events, is apart, but that a state without a create
 -- event allows nothing but a create event.
 use Rattle.std.specs.Prelude.{ℕ, ℤ, int_lt, List, [], ◌∷◌, Bool, true, not, ⊤, Option, Result, option_map, unwrap_or, is_none, slice_get, codes, bytes_eq}
-use Rattle.serde_json.specs.Data.{Data, null}
+use Rattle.serde_json.specs.Data.{null}
+use Rattle.fed_redaction.specs.declared.version.Version.TheVariants.{V10}
+use Rattle.fed_event.specs.Event as versions
+use Rattle.fed_event.specs.Event.{Event}
 use Rattle.fed_event.specs.EventId.{event_id_of}
 use Rattle.fed_event.specs.Fields.{content_of, kind_of, sender_of, state_key_of}
 use Rattle.fed_event.specs.Checked.{CheckedEvent}
@@ -19,8 +22,12 @@ use Rattle.fed_auth.specs.PowerRules.{power_table}
 use Rattle.fed_auth.specs.EventRules.{is_unfederated, member_target, is_unauthorised, is_of_other_user}
 use Rattle.fed_auth.specs.StateView.{Look, event_in, event_among, create_event, power_content, room_levels, membership_of, facts_of}
 
+-- what stands for a create event where there is none
+abbrev pub no_event : Event
+no_event = versions.event_in V10 null
+
 -- rule 4: m.room.member
-unfoldable pub member_table : Look → LevelsGiven → Data → CheckedEvent → List Row
+unfoldable pub member_table : Look → LevelsGiven → Event → CheckedEvent → List Row
 member_table look levels create checked =
     let event = checked.event in
     let target = unwrap_or (member_target event) [] in
@@ -34,11 +41,11 @@ is_outside look user = not (is_joined (membership_of look user))
 unfoldable pub lacks_invite_level : LevelsGiven → ℤ → Bool
 lacks_invite_level levels level = int_lt level (invite_level levels)
 
-unfoldable pub lacks_level : LevelsGiven → ℤ → Data → Bool
+unfoldable pub lacks_level : LevelsGiven → ℤ → Event → Bool
 lacks_level levels level event = int_lt level (required_level levels (kind_of event) (state_key_of event))
 
 -- rules 5 to 10
-unfoldable pub other_table : Look → LevelsGiven → Data → List Row
+unfoldable pub other_table : Look → LevelsGiven → Event → List Row
 other_table look levels event =
     let level = user_level levels (sender_of event) in
     reject (rule 5 0 0) (is_outside look (sender_of event))
@@ -50,7 +57,7 @@ other_table look levels event =
     ∷ []
 
 -- rules 3 to 10, beside the create event
-unfoldable pub room_table : Look → Data → CheckedEvent → List Row
+unfoldable pub room_table : Look → Event → CheckedEvent → List Row
 room_table look create checked =
     reject (rule 3 0 0) (is_unfederated create checked.event)
     ∷ within (bytes_eq (kind_of checked.event) (codes "m.room.member")) (member_table look (room_levels look) create checked)
@@ -61,7 +68,7 @@ unfoldable pub rule_table : Look → Option (List ℕ) → CheckedEvent → List
 rule_table look first checked =
     within (bytes_eq (kind_of checked.event) (codes "m.room.create")) (create_table first checked.event)
     ∷ reject (rule 2 4 0) (is_none (create_event look))
-    ∷ room_table look (unwrap_or (create_event look) null) checked
+    ∷ room_table look (unwrap_or (create_event look) no_event) checked
 
 -- the id of the first event of a graph
 abbrev pub first_id : List Stored → Option (List ℕ)
@@ -72,5 +79,5 @@ abbrev pub allowed_of : List Stored → CheckedEvent → StateMap → Result ⊤
 allowed_of events checked state = decide (rule_table (event_in events state) (first_id events) checked)
 
 -- the same by the events of the state themselves, whose create event is the first of the room
-abbrev pub allowed_by : List Data → CheckedEvent → Result ⊤ Rule
+abbrev pub allowed_by : List Event → CheckedEvent → Result ⊤ Rule
 allowed_by events checked = decide (rule_table (event_among events) (option_map event_id_of (create_event (event_among events))) checked)

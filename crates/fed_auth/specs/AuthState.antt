@@ -4,7 +4,7 @@ use Rattle.std.specs.Prelude.{◌≡◌, ℕ, List, [], ◌∷◌, Bool, true, f
 use Rattle.std.specs.Option.{option_eq}
 use Rattle.std.specs.List.{list_any, filter_map}
 use Rattle.std.specs.FinMap as finite
-use Rattle.serde_json.specs.Data.{Data}
+use Rattle.fed_event.specs.Event.{Event}
 use Rattle.fed_event.specs.Tests.{holds}
 use Rattle.fed_event.specs.Fields.{auth_events_of, kind_of, room_id_of, state_key_of}
 use Rattle.fed_room_contract.specs.declared.rule.Rule.{Rule}
@@ -39,7 +39,7 @@ unfoldable pub stands_at : List ℕ → List ℕ → Stored → Bool
 stands_at kind key auth = bytes_eq kind (kind_in auth) && option_eq bytes_eq (Some key) (state_key_in auth)
 
 -- an event without a state key is never selected
-unfoldable pub is_outside_selection : Data → Stored → Bool
+unfoldable pub is_outside_selection : Event → Stored → Bool
 is_outside_selection event auth = not (holds (is_selected (selector_of event) (kind_in auth)) (state_key_in auth))
 
 abbrev pub is_rejected : Stored → Bool
@@ -48,11 +48,11 @@ is_rejected auth = is_rejection auth.verdict
 unfoldable pub is_create : Stored → Bool
 is_create auth = bytes_eq (kind_in auth) (codes "m.room.create")
 
-unfoldable pub is_of_other_room : Data → Stored → Bool
+unfoldable pub is_of_other_room : Event → Stored → Bool
 is_of_other_room event auth = not (bytes_eq (room_id_of auth.event.event) (room_id_of event))
 
 -- by the auth events of the event
-unfoldable pub auth_table : Data → List Stored → List Row
+unfoldable pub auth_table : Event → List Stored → List Row
 auth_table event auth =
     reject (rule 2 1 0) (has_double auth)
     ∷ reject (rule 2 2 0) (list_any (is_outside_selection event) auth)
@@ -80,7 +80,7 @@ abbrev pub answer_of : Result ⊤ Rule → StateMap → Result StateMap Rule
 answer_of (Ok done) state = Ok state
 answer_of (Err number) state = Err number
 
-unfoldable pub auth_state_of : List Stored → Data → Result StateMap Rule
+unfoldable pub auth_state_of : List Stored → Event → Result StateMap Rule
 auth_state_of events event =
     let auth = stored_of events (auth_events_of event) in
     if bytes_eq (kind_of event) (codes "m.room.create") then Ok finite.empty else answer_of (decide (auth_table event auth)) (with_all finite.empty auth)

@@ -5,6 +5,7 @@ use Rattle.std.specs.List.{list_any, filter_map, position_or_len}
 use Rattle.std.specs.Coded.{Coded, code_by, coded×, coded_ℕ, coded_list, coded_option}
 use Rattle.serde_json.specs.Data.{Data}
 use Rattle.fed_json.specs.Code.{coded_data}
+use Rattle.fed_event.specs.Event.{Event}
 use Rattle.fed_event.specs.Tests.{holds}
 use Rattle.fed_event.specs.Fields.{content_of, kind_of, sender_of, state_key_of}
 use Rattle.fed_event.specs.Checked.{authorising_user_in}
@@ -25,7 +26,7 @@ fields_code =
     code_by ((List ℕ × List ℕ) × (Option (List ℕ) × Data)) (coded× (coded× (coded_list coded_ℕ) (coded_list coded_ℕ)) (coded× (coded_option (coded_list coded_ℕ)) coded_data))
     (λ f. ((f.kind, f.sender), (f.state_key, f.content))) (λ p. record { kind = p.0.0; sender = p.0.1; state_key = p.1.0; content = p.1.1 }) (λ _. refl)
 
-abbrev pub selector_of : Data → SelectorFields
+abbrev pub selector_of : Event → SelectorFields
 selector_of event = record { kind = kind_of event; sender = sender_of event; state_key = state_key_of event; content = content_of event }
 
 -- ---- the keys

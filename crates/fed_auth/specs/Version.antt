@@ -1,8 +1,6 @@
 -- Which room versions are known (Matrix, "Room versions").
-use Rattle.std.specs.Prelude.{ℕ, List, Bool, codes, bytes_eq}
-
-abbrev pub room_version : List ℕ
-room_version = codes "10"
+use Rattle.std.specs.Prelude.{ℕ, List, Bool, is_some}
+use Rattle.fed_event.specs.Version.{version_named}
 
 abbrev pub is_known_version : List ℕ → Bool
-is_known_version version = bytes_eq version room_version
+is_known_version name = is_some (version_named name)

@@ -13,8 +13,8 @@ use fed_room_contract::Rule;
 ///
 /// # Errors
 ///
-/// 1.1 where it follows other events, 1.2 where the room id and the sender are of different servers, 1.3 where it names another room
-/// version than 10, 1.4 where it names no creator, 1.5 where another event is the room's first.
+/// 1.1 where it follows other events, 1.2 where the room id and the sender are of different servers, 1.3 where it names a room
+/// version that is not known, 1.4 where it names no creator and the version has it so, 1.5 where another event is the room's first.
 #[tactic(auto, unfolding(crate::specs::CreateRules::create_table))]
 pub(crate) fn allow_create(event: &Pdu, first: Option<&EventId>) -> Result<(), Rule>
     ensures { result ≡ decide (create_table (option_map (λ id. id.now) first.entry) event.now) }
@@ -81,7 +81,7 @@ fn names_known_version(version: JsonRef<'_>) -> bool
 fn lacks_creator(event: &Pdu) -> bool
     ensures { result ≡ lacks_creator event.now }
 {
-    event.content().member("creator").is_none()
+    event.version().names_creator() && event.content().member("creator").is_none()
 }
 
 #[tactic(auto, unfolding(crate::specs::CreateRules::comes_later))]

@@ -1,7 +1,7 @@
 // What holds of all selections and auth states.
 ghost use Rattle.std.specs.Prelude.{◌≡◌, ◌≢◌, ◌<◌, All, AllPairs, ℕ, List, Ok, false, find, option_map, bytes_eq, codes};
 ghost use Rattle.std.specs.List.{list_any};
-ghost use Rattle.serde_json.specs.Data.{Data};
+ghost use Rattle.fed_event.specs.Event.{Event};
 ghost use Rattle.fed_event.specs.Fields.{auth_events_of, kind_of};
 ghost use Rattle.fed_room_contract.specs.declared.graph.Stored.{Stored};
 ghost use Rattle.fed_room_contract.specs.Graph.{id_of};
@@ -26,14 +26,14 @@ pub fn what_is_selected()
 pub fn selections_pass()
     ensures single { (events : List Stored) (fields : SelectorFields) (state : StateMap) → NamesOwnEvents events state
         → has_double (stored_of events (selection_of fields state)) ≡ false }
-    ensures inside { (events : List Stored) (event : Data) (state : StateMap) → NamesOwnEvents events state
+    ensures inside { (events : List Stored) (event : Event) (state : StateMap) → NamesOwnEvents events state
         → list_any (is_outside_selection event) (stored_of events (selection_of (selector_of event) state)) ≡ false }
 {}
 
 /// The auth state of an event that is no create event has at a type and state key the auth event of that type and state key, and
 /// nothing where there is none.
 pub fn what_an_auth_state_has()
-    ensures { (events : List Stored) (event : Data) (state : StateMap) (kind key : List ℕ)
+    ensures { (events : List Stored) (event : Event) (state : StateMap) (kind key : List ℕ)
         → bytes_eq (kind_of event) (codes "m.room.create") ≡ false → auth_state_of events event ≡ Ok state
         → entry_at state kind key ≡ option_map id_of (find (stands_at kind key) (stored_of events (auth_events_of event))) }
 {}

@@ -43,4 +43,4 @@ pub use membership::Membership;
 pub use rules::{allowed, allowed_by, allowed_in};
 pub use selector::{Key, Selector, selection};
 pub use state_view::creator;
-pub use version::{ROOM_VERSION, is_known_version};
+pub use version::is_known_version;

@@ -160,11 +160,16 @@ fn is_at(event: &Pdu, kind: &str, state_key: &str) -> bool
     event.kind() == kind && event.state_key() == Some(state_key)
 }
 
-/// The creator that a create event names, where it names one.
+/// The user that created the room, by its create event: the one that its content names, where it names one and the version has it so,
+/// and in room version 11 its sender.
 pub fn creator(create: &Pdu) -> Option<&str>
     ensures { option_map (λ s. s.now) result ≡ creator_in create.now }
 {
-    create.content().member("creator")?.text()
+    if create.version().names_creator() {
+        create.content().member("creator")?.text()
+    } else {
+        Some(create.sender())
+    }
 }
 
 // Whether the event follows the create event alone, and its target is the creator.

@@ -2,12 +2,11 @@
 ghost use Rattle.std.specs.Prelude.{◌≡◌};
 ghost use Rattle.fed_auth.specs.Version.{is_known_version};
 
-/// The room version whose rules are these: no other is known.
-pub const ROOM_VERSION: &str = "10";
+use fed_event::Version;
 
-/// Whether a room of this version is known.
-pub fn is_known_version(version: &str) -> bool
-    ensures { result ≡ is_known_version version.now }
+/// Whether a room version of this name is known.
+pub fn is_known_version(name: &str) -> bool
+    ensures { result ≡ is_known_version name.now }
 {
-    version == ROOM_VERSION
+    Version::read(name).is_some()
 }
