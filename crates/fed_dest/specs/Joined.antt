@@ -4,7 +4,7 @@ use Rattle.std.specs.Prelude.{◌≡◌, ℕ, List, ◌==◌, ◌&&◌, Bool, no
 use Rattle.std.specs.FinMap as finite
 use Rattle.std.specs.List.{list_any}
 use Rattle.std.specs.List.Sorted.{IsStrictlyIncreasing}
-use Rattle.serde_json.specs.Data.{Data}
+use Rattle.fed_event.specs.Event.{Event}
 use Rattle.serde_json.specs.Find.{as_str, get}
 use Rattle.fed_event.specs.Ids.{domain_of}
 use Rattle.fed_event.specs.Fields.{content_of, kind_of, state_key_of}
@@ -15,14 +15,14 @@ use Rattle.fed_room_contract.specs.State.{StateKey, StateMap}
 use Rattle.fed_dest.specs.ServerSet.{is_among}
 
 -- the membership in the event's content, where it is a text
-abbrev pub membership_of : Data → Option (List ℕ)
+abbrev pub membership_of : Event → Option (List ℕ)
 membership_of event = option_and_then as_str (get (codes "membership") (content_of event))
 
-abbrev pub says_join : Data → Bool
+abbrev pub says_join : Event → Bool
 says_join event = holds (λ membership. bytes_eq membership (codes "join")) (membership_of event)
 
 -- an event by which a user of this server is joined
-abbrev pub joins_server : List ℕ → Data → Bool
+abbrev pub joins_server : List ℕ → Event → Bool
 joins_server server event =
     holds (λ state_key. bytes_eq (kind_of event) (codes "m.room.member") && bytes_eq (domain_of state_key) server && says_join event) (state_key_of event)
 

@@ -3,6 +3,7 @@ use Rattle.std.proofs.Common.{◌≡◌, ℕ, List, [], ◌∷◌, Bool, true, f
 use Rattle.std.specs.Prelude.{codes, slice_get}
 use Rattle.std.specs.List.{filter_map, cons_option}
 use Rattle.serde_json.specs.Data.{Data}
+use Rattle.fed_event.specs.Event.{Event}
 use Rattle.fed_event.specs.Tests.{holds}
 use Rattle.fed_event.specs.Fields.{content_of}
 use Rattle.fed_room_contract.specs.declared.graph.Stored.{Stored}
@@ -45,4 +46,4 @@ module _ (events : List Stored) (place : ℕ) (stored : Stored) where
   pub levels-read : levels_read events place stored ≡ levels_by events place (event_of stored)
   levels-read =
       ap (λ (content : Option Data). record { content = content; creator = option_and_then creator_in (create_read events place stored) }) levels-content
-      ∙ ap (λ (create : Option Data). record { content = option_map content_of (auth_by events place (codes "m.room.power_levels") []); creator = option_and_then creator_in create }) create-read
+      ∙ ap (λ (create : Option Event). record { content = option_map content_of (auth_by events place (codes "m.room.power_levels") []); creator = option_and_then creator_in create }) create-read

@@ -5,7 +5,7 @@ use Rattle.std.specs.List.{list_all, filter_map}
 use Rattle.std.specs.Ordering.{is_lt, ordering_then, int_cmp, nat_cmp}
 use Rattle.std.specs.declared.cmp.Ordering.{Ordering}
 use Rattle.std.specs.Cmp.Lexicographic.{slice_cmp}
-use Rattle.serde_json.specs.Data.{Data}
+use Rattle.fed_event.specs.Event.{Event}
 use Rattle.fed_event.specs.Tests.{holds}
 use Rattle.fed_event.specs.Fields.{content_of, kind_of, sender_of, state_key_of, origin_server_ts_of}
 use Rattle.fed_room_contract.specs.declared.graph.Stored.{Stored}
@@ -27,17 +27,17 @@ removes Ban = true
 removes membership = false
 
 -- a member event by which a user takes another one's membership away
-abbrev pub is_removal : Data → Bool
+abbrev pub is_removal : Event → Bool
 is_removal event =
     bytes_eq (kind_of event) (codes "m.room.member") && removes (membership_in (content_of event)) && holds (λ key. not (bytes_eq key (sender_of event))) (state_key_of event)
 
 -- a state event of the power levels or the join rules
-abbrev pub is_rule_event : Data → Bool
+abbrev pub is_rule_event : Event → Bool
 is_rule_event event =
     is_some (state_key_of event) && (bytes_eq (kind_of event) (codes "m.room.power_levels") || bytes_eq (kind_of event) (codes "m.room.join_rules"))
 
 -- such an event, or such a member event
-abbrev pub is_power_event : Data → Bool
+abbrev pub is_power_event : Event → Bool
 is_power_event event = is_rule_event event || is_removal event
 
 abbrev pub is_power_place : List Stored → ℕ → Bool
@@ -49,11 +49,11 @@ is_power_place events place = holds (λ stored. is_power_event stored.event.even
 abbrev pub first_auth : List Stored → ℕ → List ℕ → List ℕ → Option Stored
 first_auth events place kind key = find (stands_at kind key) (filter_map (slice_get events) (auths_at events place))
 
-abbrev pub event_of : Stored → Data
+abbrev pub event_of : Stored → Event
 event_of stored = stored.event.event
 
 -- the create event that the event at a place reads: itself, where it is one
-abbrev pub create_read : List Stored → ℕ → Stored → Option Data
+abbrev pub create_read : List Stored → ℕ → Stored → Option Event
 create_read events place stored = if is_create stored then Some (event_of stored) else option_map event_of (first_auth events place (codes "m.room.create") [])
 
 -- the levels by the power levels event and the create event among the auth events

@@ -78,7 +78,7 @@ are_parts (d ∷ ds) h =
 
 event_part : (c : CheckedEvent) → IsWrittenEvent c → IsPart (event_of c)
 event_part c h =
-    let event = is_event c.event h.passes in
+    let event = is_event c.event.value h.passes in
     record { whole = h.written.profile.whole; rising = h.written.profile.rising; levels = event.levels; text = h.written.text; size = event.size }
 
 event_parts : (pdus : List CheckedEvent) → All IsWrittenEvent pdus → All IsPart (map event_of pdus)

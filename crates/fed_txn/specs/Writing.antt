@@ -7,8 +7,9 @@ use Rattle.fed_event.specs.Checked.{CheckedEvent}
 use Rattle.fed_outbox.specs.Transaction.{TransactionValue}
 use Rattle.fed_txn.specs.Transaction.{Transaction}
 
+-- the element of `pdus` that sends an event: its value
 abbrev pub event_of : CheckedEvent → Data
-event_of checked = checked.event
+event_of checked = checked.event.value
 
 abbrev pub list_value : List Data → Data
 list_value values = array (items_of values)

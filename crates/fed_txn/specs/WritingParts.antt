@@ -11,5 +11,5 @@ pub record IsWritten (d : Data) : Type 0 where
   pub text : IsUtf8 (canonical_text d)
 
 pub record IsWrittenEvent (c : CheckedEvent) : Type 0 where
-  pub written : IsWritten c.event
-  pub passes : first_fault_of c.event ≡ None
+  pub written : IsWritten c.event.value
+  pub passes : first_fault_of c.event.value ≡ None

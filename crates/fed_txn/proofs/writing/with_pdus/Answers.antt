@@ -1,4 +1,4 @@
-use Rattle.std.proofs.Common.{All, arith, subst, sym, ◌∙◌}
+use Rattle.std.proofs.Common.{All, arith, ap, subst, sym, ◌∙◌}
 use Rattle.std.proofs.lemmas.Grind.{common_steps}
 use Rattle.std.proofs.lemmas.List.{take_all}
 use Rattle.std.proofs.lemmas.List.Elements.{All-more}
@@ -8,7 +8,7 @@ use Rattle.fed_txn.proofs.writing.with_pdus.Goals as goal
 pub loop-event-preserved : goal.loop-event-preserved
 loop-event-preserved c =
     let this : IsWrittenEvent c.event-item.result = record {
-      written = subst IsWritten (c.json.ensures.value ∙ c.event.ensures.event) c.in_ok-add.ensures.item;
+      written = subst IsWritten (c.json.ensures.value ∙ ap (λ e. e.value) c.event.ensures.event) c.in_ok-add.ensures.item;
       passes = rw (sym c.event.ensures.event) c.json.ensures.passes;
     } in
     record {
