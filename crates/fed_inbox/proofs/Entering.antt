@@ -9,7 +9,7 @@ use Rattle.std.proofs.lemmas.Map.Text.{is_eq-slice_cmp}
 use Rattle.serde_json.specs.Data.{Data}
 use Rattle.serde_json.specs.Find.{as_object}
 use Rattle.fed_event.specs.Names.{is_one_of}
-use Rattle.fed_event.specs.EventId.{event_id_of}
+use Rattle.fed_inbox.specs.Elements.{read_as, element_id}
 use Rattle.fed_event.specs.Keys.{Checks}
 use Rattle.fed_event.specs.Checked.{CheckedEvent, checked_of}
 use Rattle.fed_txn.specs.Verdicts.{VerdictMap}
@@ -37,17 +37,17 @@ module _ (checks : Checks) (rooms : List (List ℕ)) where
   enters_first all = record { known = []; keys = λ id. ap is_some (finite.get-empty (slice_cmp nat_cmp) id); verdicts = refl; fresh = refl }
 
   one_more : (event : Data) (events : List Data) (fresh : List CheckedEvent)
-      → (if is_none (verdict_on checks rooms event) then fresh ++ checked_of checks event ∷ [] else fresh) ++ passing checks rooms events ≡ fresh ++ passing checks rooms (event ∷ events)
+      → (if is_none (verdict_on checks rooms event) then fresh ++ checked_of checks (read_as event) ∷ [] else fresh) ++ passing checks rooms events ≡ fresh ++ passing checks rooms (event ∷ events)
   one_more event events fresh =
-      elim (is_none (verdict_on checks rooms event)) as (λ b. (if b then fresh ++ checked_of checks event ∷ [] else fresh) ++ passing checks rooms events
-      ≡ fresh ++ map (checked_of checks) (if b then event ∷ filter (λ e. is_none (verdict_on checks rooms e)) events else filter (λ e. is_none (verdict_on checks rooms e)) events))
-      [ true ↦ append_assoc fresh (checked_of checks event ∷ []) (passing checks rooms events) | false ↦ refl ]
+      elim (is_none (verdict_on checks rooms event)) as (λ b. (if b then fresh ++ checked_of checks (read_as event) ∷ [] else fresh) ++ passing checks rooms events
+      ≡ fresh ++ map (λ e. checked_of checks (read_as e)) (if b then event ∷ filter (λ e. is_none (verdict_on checks rooms e)) events else filter (λ e. is_none (verdict_on checks rooms e)) events))
+      [ true ↦ append_assoc fresh (checked_of checks (read_as event) ∷ []) (passing checks rooms events) | false ↦ refl ]
 
   pub enters_next : (so_far : Entered) (element : Data) (left all : List Data) → Enters so_far (element ∷ left) all → Enters (after_element checks rooms so_far element) left all
   enters_next so_far element left all reached = by (cases_Bool looked_at)
     where
       id : List ℕ
-      id = event_id_of element
+      id = element_id element
 
       looked_at : Bool
       looked_at = is_some (as_object element) && not (finite.contains_key so_far.0 id)

@@ -10,6 +10,7 @@ use Rattle.serde_json.specs.Find.{as_object}
 use Rattle.fed_event.specs.declared.fault.PduFault.{PduFault}
 use Rattle.fed_event.specs.Names.{is_one_of}
 use Rattle.fed_event.specs.EventId.{event_id_of}
+use Rattle.fed_inbox.specs.Elements.{read_as, element_id}
 use Rattle.fed_event.specs.Fields.{room_id_of}
 use Rattle.fed_event.specs.Tests.{first_fault_of}
 use Rattle.fed_event.specs.Verdict.{verdict_of}
@@ -32,15 +33,15 @@ no_verdict None true false t u h = absurd (false≢true h)
 no_verdict None true true t u h = (refl, refl, refl)
 
 module _ (checks : Checks) (rooms : List (List ℕ)) where
-  for_rooms : (event : Data) → is_none (verdict_on checks rooms event) ≡ true → IsForRooms checks rooms (checked_of checks event)
+  for_rooms : (event : Data) → is_none (verdict_on checks rooms event) ≡ true → IsForRooms checks rooms (checked_of checks (read_as event))
   for_rooms event h =
-      let (passes, signed, known) = no_verdict (first_fault_of event) (is_signed checks event) (is_one_of rooms (room_id_of event)) (codes "bad signature") (codes "unknown room") h in
-      ((event, passes, signed, refl), ap (is_one_of rooms) (room_kept checks event) ∙ known)
+      let (passes, signed, known) = no_verdict (first_fault_of event) (is_signed checks (read_as event)) (is_one_of rooms (room_id_of (read_as event))) (codes "bad signature") (codes "unknown room") h in
+      ((read_as event, passes, signed, refl), ap (is_one_of rooms) (room_kept checks (read_as event)) ∙ known)
 
   all_for_rooms : (events : List Data) → All (IsForRooms checks rooms) (passing checks rooms events)
   all_for_rooms events =
       let p : Data → Bool = λ event. is_none (verdict_on checks rooms event) in
-      All-map (IsForRooms checks rooms) (checked_of checks) (filter p events) (All-weaker _ _ for_rooms (filter p events) (filter_passes p events))
+      All-map (IsForRooms checks rooms) (λ e. checked_of checks (read_as e)) (filter p events) (All-weaker _ _ for_rooms (filter p events) (filter_passes p events))
 
 -- ---- events of one request
 
@@ -54,35 +55,35 @@ looked_at true false h = refl
 looked_at false b h = absurd (false≢true h)
 
 -- the first of an id has none of the known ids
-unknown : (known : List (List ℕ)) (elements : List Data) → All (λ e. is_one_of known (event_id_of e) ≡ false) (firsts_but known elements)
-unknown known [] = All-nil (λ e. is_one_of known (event_id_of e) ≡ false)
-unknown known (e ∷ es) = by (is_some (as_object e) && not (is_one_of known (event_id_of e))) refl (unknown (event_id_of e ∷ known) es) (unknown known es)
+unknown : (known : List (List ℕ)) (elements : List Data) → All (λ e. is_one_of known (element_id e) ≡ false) (firsts_but known elements)
+unknown known [] = All-nil (λ e. is_one_of known (element_id e) ≡ false)
+unknown known (e ∷ es) = by (is_some (as_object e) && not (is_one_of known (element_id e))) refl (unknown (element_id e ∷ known) es) (unknown known es)
   where
     id : List ℕ
-    id = event_id_of e
+    id = element_id e
 
     P : List (List ℕ) → Data → Type 0
-    P known e = is_one_of known (event_id_of e) ≡ false
+    P known e = is_one_of known (element_id e) ≡ false
 
     by : (b : Bool) → (is_some (as_object e) && not (is_one_of known id)) ≡ b → All (P (id ∷ known)) (firsts_but (id ∷ known) es) → All (P known) (firsts_but known es)
         → All (P known) (if b then e ∷ firsts_but (id ∷ known) es else firsts_but known es)
     by true is entered skipped =
         All-cons (P known) e (firsts_but (id ∷ known) es) (looked_at (is_some (as_object e)) (is_one_of known id) is)
-        (All-weaker (P (id ∷ known)) (P known) (λ x h. (known_later (bytes_eq (event_id_of x) id) (is_one_of known (event_id_of x)) h).1) (firsts_but (id ∷ known) es) entered)
+        (All-weaker (P (id ∷ known)) (P known) (λ x h. (known_later (bytes_eq (element_id x) id) (is_one_of known (element_id x)) h).1) (firsts_but (id ∷ known) es) entered)
     by false is entered skipped = skipped
 
 abbrev AreApart : Data → Data → Type 0
-AreApart one other = event_id_of one ≢ event_id_of other
+AreApart one other = element_id one ≢ element_id other
 
 firsts_apart : (known : List (List ℕ)) (elements : List Data) → AllPairs AreApart (firsts_but known elements)
 firsts_apart known [] = λ i j d lt within. absurd (omega arith)
-firsts_apart known (e ∷ es) = by (is_some (as_object e) && not (is_one_of known (event_id_of e))) (firsts_apart (event_id_of e ∷ known) es) (firsts_apart known es)
+firsts_apart known (e ∷ es) = by (is_some (as_object e) && not (is_one_of known (element_id e))) (firsts_apart (element_id e ∷ known) es) (firsts_apart known es)
   where
     id : List ℕ
-    id = event_id_of e
+    id = element_id e
 
-    other : (x : Data) → is_one_of (id ∷ known) (event_id_of x) ≡ false → AreApart e x
-    other x h same = false≢true (sym (known_later (bytes_eq (event_id_of x) id) (is_one_of known (event_id_of x)) h).0 ∙ (bytes_eq-Decides (event_id_of x) id).1 (sym same))
+    other : (x : Data) → is_one_of (id ∷ known) (element_id x) ≡ false → AreApart e x
+    other x h same = false≢true (sym (known_later (bytes_eq (element_id x) id) (is_one_of known (element_id x)) h).0 ∙ (bytes_eq-Decides (element_id x) id).1 (sym same))
 
     by : (b : Bool) → AllPairs AreApart (firsts_but (id ∷ known) es) → AllPairs AreApart (firsts_but known es) → AllPairs AreApart (if b then e ∷ firsts_but (id ∷ known) es else firsts_but known es)
     by true entered skipped = AllPairs-cons AreApart e (firsts_but (id ∷ known) es) (All-weaker _ _ other (firsts_but (id ∷ known) es) (unknown (id ∷ known) es)) entered
@@ -92,13 +93,16 @@ module _ (checks : Checks) (rooms : List (List ℕ)) where
   abbrev AreApartChecked : CheckedEvent → CheckedEvent → Type 0
   AreApartChecked one other = event_id_of one.event ≢ event_id_of other.event
 
-  checked_apart : (events : List Data) → AllPairs AreApart events → AllPairs AreApartChecked (map (checked_of checks) events)
+  abbrev checked : Data → CheckedEvent
+  checked element = checked_of checks (read_as element)
+
+  checked_apart : (events : List Data) → AllPairs AreApart events → AllPairs AreApartChecked (map checked events)
   checked_apart [] h = λ i j d lt within. absurd (omega arith)
   checked_apart (x ∷ xs) h =
-      let still : (y : Data) → AreApart x y → AreApartChecked (checked_of checks x) (checked_of checks y) = λ y n e. n (sym (id_kept checks x) ∙ e ∙ id_kept checks y) in
+      let still : (y : Data) → AreApart x y → AreApartChecked (checked x) (checked y) = λ y n e. n (sym (id_kept checks (read_as x)) ∙ e ∙ id_kept checks (read_as y)) in
       let head : All (AreApart x) xs = λ k d within. h zero (suc k) d (omega arith) (omega arith) in
-      AllPairs-cons AreApartChecked (checked_of checks x) (map (checked_of checks) xs)
-      (All-map (AreApartChecked (checked_of checks x)) (checked_of checks) xs (All-weaker (AreApart x) (λ y. AreApartChecked (checked_of checks x) (checked_of checks y)) still xs head))
+      AllPairs-cons AreApartChecked (checked x) (map checked xs)
+      (All-map (AreApartChecked (checked x)) checked xs (All-weaker (AreApart x) (λ y. AreApartChecked (checked x) (checked y)) still xs head))
       (checked_apart xs (λ i j d lt within. h (suc i) (suc j) d (omega arith) (omega arith)))
 
   fresh_apart : (elements : List Data) → AllPairs AreApartChecked (fresh_of checks rooms elements)

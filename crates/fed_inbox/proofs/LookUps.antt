@@ -10,7 +10,7 @@ use Rattle.std.specs.Cmp.Lexicographic.{slice_cmp, nat_list_cmp_total}
 use Rattle.serde_json.specs.Data.{Data}
 use Rattle.serde_json.specs.Find.{as_object}
 use Rattle.fed_event.specs.Names.{is_one_of}
-use Rattle.fed_event.specs.EventId.{event_id_of}
+use Rattle.fed_inbox.specs.Elements.{element_id}
 use Rattle.fed_event.specs.Keys.{Checks}
 use Rattle.fed_txn.specs.Verdicts.{VerdictMap}
 use Rattle.fed_inbox.specs.Rooms.{with_rooms}
@@ -125,18 +125,18 @@ module _ (checks : Checks) (rooms : List (List ℕ)) where
   verdict_entered : (m : VerdictMap) (k : List ℕ) (v : Option (List ℕ)) (q : List ℕ) → finite.get (finite.insert m k v) q ≡ cond (bytes_eq q k) (Some v) (finite.get m q)
   verdict_entered m k v q = finite.get-insert nat_list_cmp_total m k v q ∙ ap (λ b. cond b (Some v) (finite.get m q)) (is_eq-slice_cmp q k)
 
-  firsts_by : (known : List (List ℕ)) (e : Data) (es : List Data) (b : Bool) → (is_some (as_object e) && not (is_one_of known (event_id_of e))) ≡ b
-      → firsts_but known (e ∷ es) ≡ (if b then e ∷ firsts_but (event_id_of e ∷ known) es else firsts_but known es)
-  firsts_by known e es b is = ap (λ t. if t then e ∷ firsts_but (event_id_of e ∷ known) es else firsts_but known es) is
+  firsts_by : (known : List (List ℕ)) (e : Data) (es : List Data) (b : Bool) → (is_some (as_object e) && not (is_one_of known (element_id e))) ≡ b
+      → firsts_but known (e ∷ es) ≡ (if b then e ∷ firsts_but (element_id e ∷ known) es else firsts_but known es)
+  firsts_by known e es b is = ap (λ t. if t then e ∷ firsts_but (element_id e ∷ known) es else firsts_but known es) is
 
   -- the verdict under a known id stays
   known_stays : (m : VerdictMap) (known : List (List ℕ)) (es : List Data) (q : List ℕ) → is_one_of known q ≡ true
       → finite.get (with_verdicts checks rooms m (firsts_but known es)) q ≡ finite.get m q
   known_stays m known [] q here = refl
-  known_stays m known (e ∷ es) q here = by (λ m' known' here'. known_stays m' known' es q here') (cases_Bool (is_some (as_object e) && not (is_one_of known (event_id_of e))))
+  known_stays m known (e ∷ es) q here = by (λ m' known' here'. known_stays m' known' es q here') (cases_Bool (is_some (as_object e) && not (is_one_of known (element_id e))))
     where
       id : List ℕ
-      id = event_id_of e
+      id = element_id e
 
       by : ((m' : VerdictMap) (known' : List (List ℕ)) → is_one_of known' q ≡ true → finite.get (with_verdicts checks rooms m' (firsts_but known' es)) q ≡ finite.get m' q)
           → ((is_some (as_object e) && not (is_one_of known id)) ≡ true) ⊎ ((is_some (as_object e) && not (is_one_of known id)) ≡ false)
@@ -158,10 +158,10 @@ module _ (checks : Checks) (rooms : List (List ℕ)) where
   pub first_decides : (m : VerdictMap) (known : List (List ℕ)) (es : List Data) (q : List ℕ) → is_one_of known q ≡ false → finite.get m q ≡ None
       → finite.get (with_verdicts checks rooms m (firsts_but known es)) q ≡ option_map (verdict_on checks rooms) (find (has_id q) es)
   first_decides m known [] q new none = none
-  first_decides m known (e ∷ es) q new none = by (λ m' known' new' none'. first_decides m' known' es q new' none') (cases_Bool (is_some (as_object e))) (same_or_not q (event_id_of e))
+  first_decides m known (e ∷ es) q new none = by (λ m' known' new' none'. first_decides m' known' es q new' none') (cases_Bool (is_some (as_object e))) (same_or_not q (element_id e))
     where
       id : List ℕ
-      id = event_id_of e
+      id = element_id e
 
       rest : Option (Option (List ℕ))
       rest = option_map (verdict_on checks rooms) (find (has_id q) es)

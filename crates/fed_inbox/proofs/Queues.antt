@@ -14,7 +14,7 @@ use Rattle.std.proofs.lemmas.Slice.Eq.{bytes_eq-Decides}
 use Rattle.serde_json.specs.Data.{Data}
 use Rattle.serde_json.specs.Find.{as_object}
 use Rattle.fed_event.specs.Names.{is_one_of}
-use Rattle.fed_event.specs.EventId.{event_id_of}
+use Rattle.fed_inbox.specs.Elements.{read_as, element_id}
 use Rattle.fed_event.specs.Keys.{Checks}
 use Rattle.fed_event.specs.Checked.{CheckedEvent, checked_of}
 use Rattle.fed_event.specs.Fields.{room_id_of}
@@ -80,10 +80,10 @@ few_in (Err fault) u e = absurd (cc)
 
 few_firsts : (known : List (List ℕ)) (elements : List Data) → length (firsts_but known elements) ≤ length elements
 few_firsts known [] = omega arith
-few_firsts known (e ∷ es) = by (is_some (as_object e) && not (is_one_of known (event_id_of e))) (few_firsts (event_id_of e ∷ known) es) (few_firsts known es)
+few_firsts known (e ∷ es) = by (is_some (as_object e) && not (is_one_of known (element_id e))) (few_firsts (element_id e ∷ known) es) (few_firsts known es)
   where
-    by : (b : Bool) → length (firsts_but (event_id_of e ∷ known) es) ≤ length es → length (firsts_but known es) ≤ length es
-        → length (if b then e ∷ firsts_but (event_id_of e ∷ known) es else firsts_but known es) ≤ length (e ∷ es)
+    by : (b : Bool) → length (firsts_but (element_id e ∷ known) es) ≤ length es → length (firsts_but known es) ≤ length es
+        → length (if b then e ∷ firsts_but (element_id e ∷ known) es else firsts_but known es) ≤ length (e ∷ es)
     by true entered skipped = omega arith
     by false entered skipped = omega arith
 
@@ -100,7 +100,7 @@ few_fresh checks rooms elements =
     let firsts_few = few_firsts [] elements in
     let p : Data → Bool = λ event. is_none (verdict_on checks rooms event) in
     let pass_few = few_pass p (firsts elements) in
-    let same = length-map (filter p (firsts elements)) (checked_of checks) in
+    let same = length-map (filter p (firsts elements)) (λ e. checked_of checks (read_as e)) in
     omega arith
 
 pub few_for_rooms : (checks : Checks) (s : InboxState) (r : SendRequest) (found : Bool) → length (marked_fresh checks s r found) ≤ 50

@@ -5,6 +5,7 @@ pub mod TextList
 pub mod Taken
 pub mod LogParts
 pub mod Rooms
+pub mod Elements
 pub mod Taking
 pub mod FaultText
 pub mod ReceivedParts

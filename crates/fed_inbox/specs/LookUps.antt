@@ -3,7 +3,7 @@ use Rattle.std.specs.Prelude.{ℕ, List, Bool, ◌&&◌, not, is_some, bytes_eq,
 use Rattle.serde_json.specs.Data.{Data}
 use Rattle.serde_json.specs.Find.{as_object}
 use Rattle.fed_event.specs.Names.{is_one_of}
-use Rattle.fed_event.specs.EventId.{event_id_of}
+use Rattle.fed_inbox.specs.Elements.{element_id}
 use Rattle.fed_inbox.specs.Log.{LogState}
 use Rattle.fed_replies.specs.Kept.{KeptReplies, reply_at}
 use Rattle.fed_inbox.specs.Inbox.{new_log}
@@ -22,4 +22,4 @@ reply_of_new kept own servers server txn = if is_taken_from own servers server t
 
 -- an object of this id
 abbrev pub has_id : List ℕ → Data → Bool
-has_id id element = is_some (as_object element) && bytes_eq id (event_id_of element)
+has_id id element = is_some (as_object element) && bytes_eq id (element_id element)

@@ -8,7 +8,7 @@ use Rattle.serde_json.specs.Find.{as_object}
 use Rattle.fed_json.specs.CanonicalText.{canonical_text}
 use Rattle.fed_event.specs.Names.{is_one_of}
 use Rattle.fed_event.specs.Fields.{room_id_of}
-use Rattle.fed_event.specs.EventId.{event_id_of}
+use Rattle.fed_inbox.specs.Elements.{read_as, element_id}
 use Rattle.fed_event.specs.Tests.{first_fault_of}
 use Rattle.fed_event.specs.Verdict.{verdict_of}
 use Rattle.fed_event.specs.Keys.{Checks}
@@ -23,8 +23,8 @@ use Rattle.fed_txn.specs.Transaction.{Transaction}
 abbrev pub firsts_but : List (List ℕ) → List Data → List Data
 firsts_but known [] = []
 firsts_but known (element ∷ elements) =
-    if is_some (as_object element) && not (is_one_of known (event_id_of element))
-    then element ∷ firsts_but (event_id_of element ∷ known) elements
+    if is_some (as_object element) && not (is_one_of known (element_id element))
+    then element ∷ firsts_but (element_id element ∷ known) elements
     else firsts_but known elements
 
 -- the objects among the elements, each the first of its id: of several objects of one id it alone is looked at
@@ -46,21 +46,21 @@ module _ (checks : Checks) (rooms : List (List ℕ)) where
   abbrev pub verdict_on : Data → Option (List ℕ)
   verdict_on event =
       first_text (option_map verdict_of (first_fault_of event)
-      ∷ unless (is_signed checks event) (codes "bad signature")
-      ∷ unless (is_one_of rooms (room_id_of event)) (codes "unknown room")
+      ∷ unless (is_signed checks (read_as event)) (codes "bad signature")
+      ∷ unless (is_one_of rooms (room_id_of (read_as event))) (codes "unknown room")
       ∷ [])
 
   -- the map with the verdicts on these objects
   abbrev pub with_verdicts : VerdictMap → List Data → VerdictMap
   with_verdicts verdicts [] = verdicts
-  with_verdicts verdicts (event ∷ events) = with_verdicts (finite.insert verdicts (event_id_of event) (verdict_on event)) events
+  with_verdicts verdicts (event ∷ events) = with_verdicts (finite.insert verdicts (element_id event) (verdict_on event)) events
 
   abbrev pub verdicts_on : List Data → VerdictMap
   verdicts_on elements = with_verdicts finite.empty (firsts elements)
 
   -- the events without a fault, in order, as they are checked
   abbrev pub passing : List Data → List CheckedEvent
-  passing events = map (checked_of checks) (filter (λ event. is_none (verdict_on event)) events)
+  passing events = map (λ event. checked_of checks (read_as event)) (filter (λ event. is_none (verdict_on event)) events)
 
   -- those that a transaction brings for the rooms
   abbrev pub fresh_of : List Data → List CheckedEvent

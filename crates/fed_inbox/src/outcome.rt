@@ -9,7 +9,7 @@ ghost use Rattle.fed_inbox.specs.Taking.{taking_of};
 use crate::received::Received;
 use crate::rooms::Rooms;
 use crate::text_list::TextList;
-use fed_event::{Checked, Keys, Texts};
+use fed_event::{Checked, Keys, Texts, Version};
 use fed_journal::is_edu;
 use fed_json::{Json, NoMemory, canonical};
 use fed_txn::{TransactionIn, write_reply};
@@ -45,7 +45,7 @@ impl Outcome {
         let mut pdus = TextList::new(alloc);
         let mut texts = Texts::new(alloc);
         for element in elements {
-            texts = texts.rewritten(alloc, &element)?;
+            texts = texts.rewritten(alloc, Version::V10, &element)?;
             received.enter(alloc, element, &texts, rooms, keys)?;
             pdus.push(texts.whole())?;
         }

@@ -1,6 +1,7 @@
 // What the events of a transaction come to.
 ghost use Rattle.std.specs.Prelude.{◌≡◌, [], OnOk};
 ghost use Rattle.fed_event.specs.Texts.{event_texts};
+ghost use Rattle.fed_inbox.specs.Elements.{read_as};
 ghost use Rattle.fed_inbox.specs.ReceivedParts.{after_element, received};
 ghost use Rattle.std.specs.FinMap as finite;
 
@@ -38,7 +39,7 @@ impl Received {
         rooms: &Rooms,
         keys: &K,
     ) -> Result<(), NoMemory>
-        requires { texts.now ≡ event_texts element }
+        requires { texts.now ≡ event_texts (read_as element) }
         ensures { OnOk result (received self.new
             ≡ after_element (K.checks keys.now) rooms.now (received self.old) element) }
     {

@@ -1,13 +1,13 @@
 // What an event comes to that a transaction brings.
 ghost use Rattle.std.specs.Prelude.{◌≡◌, Some, None, IfOk, MatchResult, string_bytes};
-ghost use Rattle.fed_event.specs.EventId.{event_id_of};
 ghost use Rattle.fed_event.specs.Texts.{event_texts};
 ghost use Rattle.fed_event.specs.Checked.{checked_of};
+ghost use Rattle.fed_inbox.specs.Elements.{read_as, element_id};
 ghost use Rattle.fed_inbox.specs.FaultText.{fault_text};
 ghost use Rattle.fed_inbox.specs.Taking.{verdict_on};
 
 use crate::rooms::Rooms;
-use fed_event::{CheckFault, Checked, EventId, Keys, Pdu, PduFault, Texts, check_signed};
+use fed_event::{CheckFault, Checked, EventId, Keys, Pdu, PduFault, Texts, Version, check_signed};
 use fed_json::{Json, NoMemory};
 use std::alloc::Global;
 
@@ -45,13 +45,13 @@ pub(crate) fn judged<K: Keys>(
     rooms: &Rooms,
     keys: &K,
 ) -> Result<Result<Checked, Fault>, NoMemory>
-    requires texts { texts.now ≡ event_texts event }
-    requires id { id ≡ event_id_of event }
+    requires texts { texts.now ≡ event_texts (read_as event) }
+    requires id { id ≡ element_id event }
     ensures { IfOk result (λ judged. MatchResult judged
-        (λ checked. (checked ≡ checked_of (K.checks keys.now) event) × (verdict_on (K.checks keys.now) rooms.now event ≡ None))
+        (λ checked. (checked ≡ checked_of (K.checks keys.now) (read_as event)) × (verdict_on (K.checks keys.now) rooms.now event ≡ None))
         (λ fault. verdict_on (K.checks keys.now) rooms.now event ≡ Some (fault_text fault))) }
 {
-    let event = match Pdu::with_texts(event, texts, id) {
+    let event = match Pdu::with_texts(Version::V10, event, texts, id) {
         Ok(event) => event,
         Err(fault) => return Ok(Err(Fault::Event(fault))),
     };

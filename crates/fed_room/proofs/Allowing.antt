@@ -1,6 +1,6 @@
 -- What is prepared of the event that is made of a draft.
 use Rattle.std.proofs.Common.{◌≡◌, List, Bool, true, false, if◌then◌else◌, Option, Some, None, Result, Ok, Err, ◌⊎◌, inl, inr, refl, sym, ap, ◌∙◌}
-use Rattle.serde_json.specs.Data.{Data}
+use Rattle.fed_event.specs.Event.{Event}
 use Rattle.fed_event.specs.declared.fault.PduFault.{PduFault}
 use Rattle.fed_event.specs.Checked.{CheckedEvent, checked_of}
 use Rattle.fed_event.specs.Tests.{first_fault_of}
@@ -18,18 +18,18 @@ use Rattle.fed_room.specs.Made.{if_passes, or_bad_draft, made_of}
 
 -- rules that make an event of these links
 module _ (rules : Rules) (signer : Signer) (events : List Stored) (links : EventLinks) (draft : DraftFields) (same : rules.parts events draft ≡ parts_of links draft) where
-  abbrev sealed : Data
+  abbrev sealed : Event
   sealed = sealed_by signer (parts_of links draft)
 
-  abbrev after : Bool → Data → Option PduFault → Result PreparedEvent Refusal
+  abbrev after : Bool → Event → Option PduFault → Result PreparedEvent Refusal
   after own event fault = if own then if_event rules signer events event fault else Err NotOwnUser
 
-  told : prepared_of rules signer events draft ≡ after (is_own_user signer.name draft.sender) sealed (first_fault_of sealed)
-  told = ap (λ (parts : Data). after (is_own_user signer.name draft.sender) (sealed_by signer parts) (first_fault_of (sealed_by signer parts))) same
+  told : prepared_of rules signer events draft ≡ after (is_own_user signer.name draft.sender) sealed (first_fault_of sealed.value)
+  told = ap (λ (parts : Event). after (is_own_user signer.name draft.sender) (sealed_by signer parts) (first_fault_of (sealed_by signer parts).value)) same
 
   -- what is prepared depends on the verdict on that event
   pub prepared-made : (event : CheckedEvent) → made_of signer links draft ≡ Ok event → prepared_of rules signer events draft ≡ if_allowed rules signer events event
-  prepared-made event h = told ∙ by (is_own_user signer.name draft.sender) (first_fault_of sealed) h
+  prepared-made event h = told ∙ by (is_own_user signer.name draft.sender) (first_fault_of sealed.value) h
     where
       by : (own : Bool) (fault : Option PduFault) → (if own then or_bad_draft signer (if_passes signer sealed fault) else Err NotOwnUser) ≡ Ok event → after own sealed fault ≡ if_allowed rules signer events event
       by true None t = let same : checked_of signer.checks sealed ≡ event = cc in ap (if_allowed rules signer events) same
@@ -38,7 +38,7 @@ module _ (rules : Rules) (signer : Signer) (events : List Stored) (links : Event
 
   -- what is not made is not prepared
   pub prepared-unmade : (refusal : Refusal) → made_of signer links draft ≡ Err refusal → prepared_of rules signer events draft ≡ Err refusal
-  prepared-unmade refusal h = told ∙ by (is_own_user signer.name draft.sender) (first_fault_of sealed) h
+  prepared-unmade refusal h = told ∙ by (is_own_user signer.name draft.sender) (first_fault_of sealed.value) h
     where
       by : (own : Bool) (fault : Option PduFault) → (if own then or_bad_draft signer (if_passes signer sealed fault) else Err NotOwnUser) ≡ Err refusal → after own sealed fault ≡ Err refusal
       by true None t = absurd (cc)

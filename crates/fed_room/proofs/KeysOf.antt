@@ -2,6 +2,7 @@
 use Rattle.std.proofs.Common.{◌≡◌, ◌<◌, ◌+◌, ℕ, List, [], ◌∷◌, length, drop, map, Bool, true, false, cond, is_none, Option, Some, None, Ok, option_map, slice_index_or, refl, sym, ap, ◌∙◌, if◌then◌else◌}
 use Rattle.fed_room_contract.specs.Prepared.{Signer, is_own_user}
 use Rattle.fed_room_contract.specs.Draft.{DraftFields}
+use Rattle.fed_redaction.specs.declared.version.Version.{Version}
 use Rattle.fed_room.specs.Creation.{drafts_of, events_in, keys_of, after_drafts, keyless, unless_keyless, started_of}
 use Rattle.fed_room.specs.Line.{empty_line}
 use Rattle.fed_room.proofs.AtPlaces.{left_here}
@@ -37,10 +38,10 @@ module _ {X : Type 0} (signer : X → Signer) where
     pub keyless-next : is_none (keys_of signer keys (text user)) ≡ false → {answer : Option ℕ} → keyless signer keys (i + 1) (map text (drop i users)) ≡ answer → keyless signer keys (i + 1 + 1) (map text (drop (i + 1) users)) ≡ answer
     keyless-next some same = sym (looked ∙ ap (λ b. if b then Some (i + 1) else keyless signer keys (i + 1 + 1) (map text (drop (i + 1) users))) some) ∙ same
 
-  pub started-is : (keys : List X) (room : List ℕ) {T : Type 0} (text : T → List ℕ) (users : List T) (first : T) (others : List T) (drafts : List DraftFields) → users ≡ first ∷ others
-      → keyless signer keys 1 (map text users) ≡ None → drafts ≡ drafts_of room (text first) (map text others)
-      → started_of signer keys room (map text users) ≡ events_in (after_drafts signer keys (Ok empty_line) drafts)
-  started-is keys room text users first others drafts e none same =
-      ap (λ us. started_of signer keys room (map text us)) e
-      ∙ ap (λ o. unless_keyless signer keys o (events_in (after_drafts signer keys (Ok empty_line) (drafts_of room (text first) (map text others))))) (ap (λ us. keyless signer keys 1 (map text us)) (sym e) ∙ none)
-      ∙ ap (λ (ds : List DraftFields). events_in (after_drafts signer keys (Ok empty_line) ds)) (sym same)
+  pub started-is : (keys : List X) (version : Version) (room : List ℕ) {T : Type 0} (text : T → List ℕ) (users : List T) (first : T) (others : List T) (drafts : List DraftFields) → users ≡ first ∷ others
+      → keyless signer keys 1 (map text users) ≡ None → drafts ≡ drafts_of version room (text first) (map text others)
+      → started_of signer keys version room (map text users) ≡ events_in (after_drafts signer keys (Ok (empty_line version)) drafts)
+  started-is keys version room text users first others drafts e none same =
+      ap (λ us. started_of signer keys version room (map text us)) e
+      ∙ ap (λ o. unless_keyless signer keys o (events_in (after_drafts signer keys (Ok (empty_line version)) (drafts_of version room (text first) (map text others))))) (ap (λ us. keyless signer keys 1 (map text us)) (sym e) ∙ none)
+      ∙ ap (λ (ds : List DraftFields). events_in (after_drafts signer keys (Ok (empty_line version)) ds)) (sym same)

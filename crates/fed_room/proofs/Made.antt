@@ -12,6 +12,7 @@ use Rattle.serde_json.specs.View.{items_of}
 use Rattle.fed_json.specs.Editing.{with_member}
 use Rattle.fed_json.specs.JsonRef.{list_of, as_whole}
 use Rattle.fed_json.proofs.Parts.{list_of-items_of}
+use Rattle.fed_event.specs.Event.{Event as RoomEvent}
 use Rattle.fed_event.specs.Fields.{text_in, prev_events_of, auth_events_of, depth_of}
 use Rattle.fed_event.specs.declared.field.Field.TheVariants.{Event}
 use Rattle.fed_event.specs.declared.fault.PduFault.{PduFault}
@@ -76,10 +77,10 @@ read-back (negsuc n) h = refl
 -- ---- a draft that nests too deep
 
 module _ (server key : List ℕ) (sign : List ℕ → List ℕ) (links : EventLinks) (draft : DraftFields) where
-  abbrev sealed : Option (List ℕ) → Data
-  sealed state_key = sealed_of server key sign (with_state_key state_key (fields_of links draft))
+  abbrev sealed : Option (List ℕ) → RoomEvent
+  sealed state_key = sealed_of server key sign links.version (with_state_key state_key (fields_of links draft))
 
-  content-sealed : (state_key : Option (List ℕ)) → get (codes "content") (sealed state_key) ≡ Some draft.content
+  content-sealed : (state_key : Option (List ℕ)) → get (codes "content") (sealed state_key).value ≡ Some draft.content
   content-sealed None = refl
   content-sealed (Some k) = refl
 
@@ -112,8 +113,8 @@ too_deep event h = found_first (fails event) TooDeep later_tests (lt-ltb 100 (de
 pub event-deep : (signer : Signer) (draft : DraftFields) → 100 < depth draft.content → (links : EventLinks) → event_of signer links draft ≡ Err TooDeep
 event-deep signer draft h links =
     let event = sealed_by signer (parts_of links draft) in
-    let within = depth-get (codes "content") event draft.content (content-sealed signer.name signer.key signer.sign links draft draft.state_key) in
-    ap (if_passes signer event) (too_deep event (omega (arith, h, within)))
+    let within = depth-get (codes "content") event.value draft.content (content-sealed signer.name signer.key signer.sign links draft draft.state_key) in
+    ap (if_passes signer event) (too_deep event.value (omega (arith, h, within)))
 
 pub made-deep : (signer : Signer) (draft : DraftFields) → is_own_user signer.name draft.sender ≡ true → 100 < depth draft.content → (links : EventLinks) → made_of signer links draft ≡ Err (BadDraft TooDeep)
 made-deep signer draft own h links =
@@ -159,15 +160,16 @@ second : (a b : Bool) → (a && b) ≡ true → b ≡ true
 second true b h = h
 second false b h = absurd (cc)
 
-pub sent_by_own : (signer : Signer) (links : EventLinks) (draft : DraftFields) → is_own_user signer.name draft.sender ≡ true → IsSentBy signer.name (parts_of links draft)
+pub sent_by_own : (signer : Signer) (links : EventLinks) (draft : DraftFields) → is_own_user signer.name draft.sender ≡ true → IsSentBy signer.name (parts_of links draft).value
 sent_by_own signer links draft own =
     sent_by signer.name links draft draft.state_key ((bytes_eq-Decides (domain_of draft.sender) signer.name).0 (second (is_user_id draft.sender) _ own))
 
 -- ---- what it names
 
-module _ (server key : List ℕ) (sign : List ℕ → List ℕ) (links : EventLinks) (draft : DraftFields) (parts event : Data) (made : parts ≡ parts_of links draft) (same : event ≡ sealed_of server key sign parts) where
+module _ (server key : List ℕ) (sign : List ℕ → List ℕ) (links : EventLinks) (draft : DraftFields) (parts : Data) (event : RoomEvent)
+    (made : parts ≡ (parts_of links draft).value) (same : event ≡ sealed_of server key sign links.version parts) where
   whole-event : event ≡ sealed server key sign links draft draft.state_key
-  whole-event = same ∙ ap (sealed_of server key sign) made
+  whole-event = same ∙ ap (sealed_of server key sign links.version) made
 
   pub prev_events-sealed : prev_events_of event ≡ links.prev_events
   prev_events-sealed = ap prev_events_of whole-event ∙ prev-sealed server key sign links draft draft.state_key
@@ -175,7 +177,7 @@ module _ (server key : List ℕ) (sign : List ℕ → List ℕ) (links : EventLi
   pub auth_events-sealed : auth_events_of event ≡ links.auth_events
   auth_events-sealed = ap auth_events_of whole-event ∙ auth-sealed server key sign links draft draft.state_key
 
-pub depth-sealed : (server key : List ℕ) (sign : List ℕ → List ℕ) (links : EventLinks) (draft : DraftFields) → InRange links.depth → depth_of (sealed_of server key sign (parts_of links draft)) ≡ links.depth
+pub depth-sealed : (server key : List ℕ) (sign : List ℕ → List ℕ) (links : EventLinks) (draft : DraftFields) → InRange links.depth → depth_of (sealed_of server key sign links.version (parts_of links draft).value) ≡ links.depth
 depth-sealed server key sign links draft range = depth-part server key sign links draft draft.state_key ∙ read-back links.depth range
 
 -- ---- it has the fields of the draft
@@ -185,10 +187,10 @@ bear-sealed : (server key : List ℕ) (sign : List ℕ → List ℕ) (links : Ev
 bear-sealed server key sign links draft None h e = record { room = refl; sender = refl; kind = refl; state_key = e; content = refl; at_ms = whole draft.at_ms h }
 bear-sealed server key sign links draft (Some k) h e = record { room = refl; sender = refl; kind = refl; state_key = e; content = refl; at_ms = whole draft.at_ms h }
 
-pub sealed_bears : (server key : List ℕ) (sign : List ℕ → List ℕ) (links : EventLinks) (draft : DraftFields) (parts event : Data) → draft.at_ms ≤ 9007199254740991 → parts ≡ parts_of links draft
-    → event ≡ sealed_of server key sign parts → Bears draft event
+pub sealed_bears : (server key : List ℕ) (sign : List ℕ → List ℕ) (links : EventLinks) (draft : DraftFields) (parts : Data) (event : RoomEvent) → draft.at_ms ≤ 9007199254740991
+    → parts ≡ (parts_of links draft).value → event ≡ sealed_of server key sign links.version parts → Bears draft event
 sealed_bears server key sign links draft parts event h made same =
-    subst (Bears draft) (sym (same ∙ ap (sealed_of server key sign) made)) (bear-sealed server key sign links draft draft.state_key h refl)
+    subst (Bears draft) (sym (same ∙ ap (sealed_of server key sign links.version) made)) (bear-sealed server key sign links draft draft.state_key h refl)
 
 -- ---- an event that names what is stored is ready
 
@@ -200,7 +202,7 @@ all_append p (x ∷ xs) ys h k = by (p x) h (all_append p xs ys)
     by true t more = more t k
     by false t more = t
 
-pub ready_naming : (events : List Stored) (event : Data) (prev auth : List (List ℕ)) → prev_events_of event ≡ prev → auth_events_of event ≡ auth → list_all (is_stored events) prev ≡ true
+pub ready_naming : (events : List Stored) (event : RoomEvent) (prev auth : List (List ℕ)) → prev_events_of event ≡ prev → auth_events_of event ≡ auth → list_all (is_stored events) prev ≡ true
     → list_all (is_stored events) auth ≡ true → is_ready events event ≡ true
 ready_naming events event prev auth p a one two = (λ i. list_all (is_stored events) (p i ++ a i)) ∙ all_append (is_stored events) prev auth one two
 

@@ -1,11 +1,13 @@
--- The events that a room begins with (Matrix, Client-Server API, "Creation"; room version 10): the first user creates it, joins it, has
+-- The events that a room begins with (Matrix, Client-Server API, "Creation"; room versions 10 and 11): the first user creates it, joins it, has
 -- power level 100 and opens it to all, and each further user joins it.
 use Rattle.std.specs.Prelude.{ℕ, ◌+◌, List, [], ◌∷◌, map, find, is_none, Option, None, Some, Result, Ok, Err, codes, if◌then◌else◌}
 use Rattle.serde_json.specs.Data.{Data, unsigned, number, string, object, no_members, member}
 use Rattle.fed_event.specs.declared.fault.PduFault.{PduFault}
 use Rattle.fed_event.specs.Checked.{CheckedEvent}
 use Rattle.fed_event.specs.Keys.{Checks}
-use Rattle.fed_auth.specs.Version.{room_version}
+use Rattle.fed_redaction.specs.declared.version.Version.{Version}
+use Rattle.fed_event.specs.Version.{name_of, names_creator}
+use Rattle.fed_event.specs.Names.{member_if}
 use Rattle.fed_room_contract.specs.Draft.{DraftFields}
 use Rattle.fed_room_contract.specs.Prepared.{Signer, signer_of, is_own_user}
 use Rattle.fed_room.specs.declared.started_fault.StartedFault.{StartedFault}
@@ -22,11 +24,13 @@ only name value = object (member name value no_members)
 abbrev pub state_draft : List ℕ → List ℕ → List ℕ → List ℕ → Data → DraftFields
 state_draft room sender kind key content = record { room = room; sender = sender; kind = kind; state_key = Some key; content = content; at_ms = 0 }
 
-abbrev pub create_content : List ℕ → Data
-create_content creator = object (member (codes "creator") (string creator) (member (codes "room_version") (string room_version) no_members))
+-- the creator, where the version has it so, and the version
+abbrev pub create_content : Version → List ℕ → Data
+create_content version creator =
+    object (member_if (codes "creator") (if names_creator version then Some (string creator) else None) (member (codes "room_version") (string (name_of version)) no_members))
 
-abbrev pub creation : List ℕ → List ℕ → DraftFields
-creation room user = state_draft room user (codes "m.room.create") [] (create_content user)
+abbrev pub creation : Version → List ℕ → List ℕ → DraftFields
+creation version room user = state_draft room user (codes "m.room.create") [] (create_content version user)
 
 abbrev pub joining : List ℕ → List ℕ → DraftFields
 joining room user = state_draft room user (codes "m.room.member") user (only (codes "membership") (string (codes "join")))
@@ -38,8 +42,8 @@ abbrev pub join_rules : List ℕ → List ℕ → DraftFields
 join_rules room user = state_draft room user (codes "m.room.join_rules") [] (only (codes "join_rule") (string (codes "public")))
 
 -- of the first user, and of the others
-abbrev pub drafts_of : List ℕ → List ℕ → List (List ℕ) → List DraftFields
-drafts_of room first others = creation room first ∷ joining room first ∷ power_levels room first ∷ join_rules room first ∷ map (joining room) others
+abbrev pub drafts_of : Version → List ℕ → List ℕ → List (List ℕ) → List DraftFields
+drafts_of version room first others = creation version room first ∷ joining room first ∷ power_levels room first ∷ join_rules room first ∷ map (joining room) others
 
 -- ---- the events
 
@@ -77,8 +81,8 @@ module _ {X : Type 0} (signer : X → Signer) (keys : List X) where
   unless_keyless (Some place) events = Err (NoKeys place)
   unless_keyless None events = events
 
-  -- the events of a room of these users, or the first reason why there are none: places are counted from 1
-  abbrev pub started_of : List ℕ → List (List ℕ) → Result (List CheckedEvent) StartedFault
-  started_of room [] = Err NoUser
-  started_of room (first ∷ others) =
-      unless_keyless (keyless 1 (first ∷ others)) (events_in (after_drafts (Ok empty_line) (drafts_of room first others)))
+  -- the events of a room of this version and these users, or the first reason why there are none: places are counted from 1
+  abbrev pub started_of : Version → List ℕ → List (List ℕ) → Result (List CheckedEvent) StartedFault
+  started_of version room [] = Err NoUser
+  started_of version room (first ∷ others) =
+      unless_keyless (keyless 1 (first ∷ others)) (events_in (after_drafts (Ok (empty_line version)) (drafts_of version room first others)))

@@ -10,7 +10,8 @@ use Rattle.std.specs.FinMap.{find}
 use Rattle.std.specs.List.{list_any, list_all}
 use Rattle.std.specs.Ordering.{eq_by_cmp}
 use Rattle.std.specs.Str.{bytes_eq}
-use Rattle.serde_json.specs.Data.{Data}
+use Rattle.fed_event.specs.Event.{Event, event_in}
+use Rattle.fed_room_contract.specs.Room.{version_of}
 use Rattle.fed_event.specs.EventId.{event_id_of}
 use Rattle.fed_room_contract.specs.declared.graph.Stored.{Stored}
 use Rattle.fed_room_contract.specs.State.{StateKey, StateMap, key_cmp, entry_at}
@@ -30,7 +31,7 @@ whole n h = by (nat_lt n (2 ^ 63)) refl
     by true t = refl
     by false f = absurd (true≢false (sym (le-leb (2 ^ 63) 9007199254740991 (le_trans (ltb-false n (2 ^ 63) f) h))))
 
-bear : (key : Option (List ℕ)) (links : EventLinks) (draft : DraftFields) → draft.at_ms ≤ 9007199254740991 → key ≡ draft.state_key → Bears draft (with_state_key key (fields_of links draft))
+bear : (key : Option (List ℕ)) (links : EventLinks) (draft : DraftFields) → draft.at_ms ≤ 9007199254740991 → key ≡ draft.state_key → Bears draft (event_in links.version (with_state_key key (fields_of links draft)))
 bear None links draft h e = record { room = refl; sender = refl; kind = refl; state_key = e; content = refl; at_ms = whole draft.at_ms h }
 bear (Some key) links draft h e = record { room = refl; sender = refl; kind = refl; state_key = e; content = refl; at_ms = whole draft.at_ms h }
 
@@ -66,7 +67,7 @@ named_stored events (i ∷ ids) id all any = by (is_stored events i) refl all (b
     by true stored all false same any later = later all any
     by false stored all b same any later = absurd (true≢false (sym all))
 
-pub before_stored : (events : List Stored) (event : Data) (row : Option Row) → is_ready events event ≡ true → NamesStored events (before_in row event)
+pub before_stored : (events : List Stored) (event : Event) (row : Option Row) → is_ready events event ≡ true → NamesStored events (before_in row event)
 before_stored events event None ready kind key id h = let none = finite.get-empty {X = List ℕ} key_cmp (kind, key) in absurd (cc)
 before_stored events event (Some row) ready kind key id h = named_stored events (named_by event) id ready (kept_passes (is_named event) row.before kind key id h)
 
@@ -75,5 +76,5 @@ table_lawful table = record {
   stays = λ events more event graph ready. refl;
   before = λ events event graph ready. before_stored events event (finite.get table.rows (event_id_of event)) ready;
   current = λ events graph. kept_passes (is_stored events) table.current;
-  bears = λ events draft moment. parts_bear no_links draft moment;
+  bears = λ events draft moment. parts_bear (no_links (version_of events)) draft moment;
 }

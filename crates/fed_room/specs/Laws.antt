@@ -1,6 +1,6 @@
 -- The statements of the laws of rooms: the states after and before events, and what a new event names, as relations.
 use Rattle.std.specs.Prelude.{◌≡◌, ℕ, ℤ, pos, ◌≤ℤ◌, List, [], ◌∷◌, true, false, None, Some, All, Contains, IsSorted, IsPermutation, map, take}
-use Rattle.serde_json.specs.Data.{Data}
+use Rattle.fed_event.specs.Event.{Event}
 use Rattle.fed_event.specs.Fields.{prev_events_of}
 use Rattle.fed_room_contract.specs.declared.graph.Stored.{Stored}
 use Rattle.fed_room_contract.specs.Graph.{id_of, stored_at}
@@ -20,7 +20,7 @@ pub record IsAfter (before : StateMap) (stored : Stored) (after : StateMap) : Ty
   pub laid_over : (key : List ℕ) → is_rejected stored ≡ false → state_key_in stored ≡ Some key → after ≡ with_entry before (kind_in stored) key (id_of stored)
 
 -- the state before an event is what the states after its prev events resolve to
-abbrev pub before_by : List Stored → (List ℕ → StateMap) → Data → StateMap
+abbrev pub before_by : List Stored → (List ℕ → StateMap) → Event → StateMap
 before_by events after event = resolved_of events (map after (prev_events_of event))
 
 -- these are the states after the stored events, by their ids

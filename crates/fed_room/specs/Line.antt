@@ -4,6 +4,7 @@ use Rattle.std.specs.Prelude.{ℕ, ℤ, pos, List, [], ◌∷◌, ◌++◌, ◌-
 use Rattle.std.specs.List.{slice_get}
 use Rattle.std.specs.FinMap as finite
 use Rattle.fed_event.specs.declared.fault.PduFault.{PduFault}
+use Rattle.fed_redaction.specs.declared.version.Version.{Version}
 use Rattle.fed_event.specs.Checked.{CheckedEvent}
 use Rattle.fed_event.specs.Fields.{depth_of}
 use Rattle.fed_room_contract.specs.declared.verdict.Verdict.TheVariants.{Accepted}
@@ -17,13 +18,14 @@ use Rattle.fed_room.specs.Made.{event_of}
 use Rattle.fed_room.specs.Parts.{EventLinks}
 use Rattle.fed_room.specs.States.{state_with}
 
--- the events, and the state after the last of them
+-- the version of the room, the events, and the state after the last of them
 pub record EventLine : Type 0 where
+  pub version : Version
   pub events : List CheckedEvent
   pub state : StateMap
 
-abbrev pub empty_line : EventLine
-empty_line = record { events = []; state = finite.empty }
+abbrev pub empty_line : Version → EventLine
+empty_line version = record { version = version; events = []; state = finite.empty }
 
 abbrev pub last_of : List CheckedEvent → Option CheckedEvent
 last_of events = slice_get events (length events - 1)
@@ -39,6 +41,7 @@ depth_after_event (Some last) = next_depth (depth_of last.event)
 -- what the next event names: the last one, and the auth events that the state after it has for the draft
 abbrev pub links_after : EventLine → DraftFields → EventLinks
 links_after line draft = record {
+  version = line.version;
   auth_events = selection_of (selector_of_draft draft) line.state;
   prev_events = prev_events_after (last_of line.events);
   depth = depth_after_event (last_of line.events);
@@ -47,6 +50,7 @@ links_after line draft = record {
 -- with one event more, which is accepted
 abbrev pub with_next : EventLine → CheckedEvent → EventLine
 with_next line event = record {
+  version = line.version;
   events = line.events ++ event ∷ [];
   state = state_with line.state (record { event = event; verdict = Accepted });
 }

@@ -3,4 +3,4 @@ use Rattle.fed_room.specs.declared.line.Line.{Line}
 use Rattle.fed_room.specs.Line.{EventLine}
 
 abbrev pub line_seen : Line → EventLine
-line_seen line = record { events = line.events.items; state = line.state }
+line_seen line = record { version = line.version; events = line.events.items; state = line.state }

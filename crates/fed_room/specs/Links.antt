@@ -8,7 +8,7 @@ use Rattle.std.specs.Cmp.Lexicographic.{slice_cmp}
 use Rattle.fed_event.specs.Fields.{depth_of}
 use Rattle.fed_room_contract.specs.declared.graph.Stored.{Stored}
 use Rattle.fed_room_contract.specs.Graph.{stored_at}
-use Rattle.fed_room_contract.specs.Room.{extremities_of}
+use Rattle.fed_room_contract.specs.Room.{extremities_of, version_of}
 use Rattle.fed_room_contract.specs.Draft.{DraftFields}
 use Rattle.fed_auth.specs.Selection.{SelectorFields, selection_of}
 use Rattle.fed_room.specs.Parts.{EventLinks}
@@ -53,9 +53,10 @@ module _ (events : List Stored) where
 abbrev pub selector_of_draft : DraftFields → SelectorFields
 selector_of_draft draft = record { kind = draft.kind; sender = draft.sender; state_key = draft.state_key; content = draft.content }
 
--- the prev events, and the auth events that the state after them has for the draft
+-- the version of the room, the prev events, and the auth events that the state after them has for the draft
 abbrev pub links_of : List Stored → DraftFields → EventLinks
 links_of events draft = record {
+  version = version_of events;
   auth_events = selection_of (selector_of_draft draft) (resolved_after events (prev_events_for events));
   prev_events = prev_events_for events;
   depth = depth_after events (prev_events_for events);

@@ -4,17 +4,20 @@ use Rattle.serde_json.specs.Data.{Data, unsigned, number, string, array, object,
 use Rattle.serde_json.specs.Find.{of_integer}
 use Rattle.serde_json.specs.View.{items_of}
 use Rattle.fed_json.specs.Editing.{with_member}
+use Rattle.fed_redaction.specs.declared.version.Version.{Version}
+use Rattle.fed_event.specs.Event.{Event, event_in}
 use Rattle.fed_room_contract.specs.Draft.{DraftFields}
 
--- the ids of the events that an event names, and its depth
+-- what an event has of its room: the version, the ids of the events that it names, and its depth
 pub record EventLinks : Type 0 where
+  pub version : Version
   pub auth_events : List (List ℕ)
   pub prev_events : List (List ℕ)
   pub depth : ℤ
 
 -- it names no events
-abbrev pub no_links : EventLinks
-no_links = record { auth_events = []; prev_events = []; depth = pos 1 }
+abbrev pub no_links : Version → EventLinks
+no_links version = record { version = version; auth_events = []; prev_events = []; depth = pos 1 }
 
 -- an array of ids
 abbrev pub array_of : List (List ℕ) → Data
@@ -37,5 +40,5 @@ abbrev pub with_state_key : Option (List ℕ) → Data → Data
 with_state_key None event = event
 with_state_key (Some key) event = with_member (codes "state_key") (string key) event
 
-abbrev pub parts_of : EventLinks → DraftFields → Data
-parts_of links draft = with_state_key draft.state_key (fields_of links draft)
+abbrev pub parts_of : EventLinks → DraftFields → Event
+parts_of links draft = event_in links.version (with_state_key draft.state_key (fields_of links draft))

@@ -4,7 +4,7 @@ use Rattle.std.proofs.lemmas.List.{map-append}
 use Rattle.std.proofs.lemmas.List.Elements.{All-cons}
 use Rattle.std.specs.FinMap as finite
 use Rattle.std.specs.List.{list_all}
-use Rattle.serde_json.specs.Data.{Data}
+use Rattle.fed_event.specs.Event.{Event}
 use Rattle.fed_event.specs.Fields.{prev_events_of, auth_events_of}
 use Rattle.fed_room_contract.specs.declared.graph.Stored.{Stored}
 use Rattle.fed_room_contract.specs.State.{StateMap, key_cmp}
@@ -47,7 +47,7 @@ front_all p (x ∷ xs) ys h = by (p x) h (front_all p xs ys)
     by false rest more = absurd (true≢false (sym rest))
 
 -- all prev events of an event that is ready are stored
-pub prev_stored : (events : List Stored) (event : Data) → is_ready events event ≡ true → list_all (is_stored events) (prev_events_of event) ≡ true
+pub prev_stored : (events : List Stored) (event : Event) → is_ready events event ≡ true → list_all (is_stored events) (prev_events_of event) ≡ true
 prev_stored events event ready = front_all (is_stored events) (prev_events_of event) (auth_events_of event) ready
 
 -- ---- what is found is stored
@@ -108,10 +108,10 @@ module _ (events : List Stored) (graph : IsGraph events) where
   within-named (suc steps) id =
       by (stored_at events id) refl (λ event. names_stored events _ (auth_graph events graph) (all_mapped (NamesStored events) (after_within events steps) (within-named steps) (prev_events_of event)))
     where
-      before : Data → StateMap
+      before : Event → StateMap
       before event = resolved_of events (map (after_within events steps) (prev_events_of event))
 
-      by : (o : Option Stored) → stored_at events id ≡ o → ((event : Data) → NamesStored events (before event)) → NamesStored events (state_with_found before o)
+      by : (o : Option Stored) → stored_at events id ≡ o → ((event : Event) → NamesStored events (before event)) → NamesStored events (state_with_found before o)
       by None e named = empty-named events
       by (Some stored) e named = with-named (before stored.event.event) stored (named stored.event.event) (found_stored events id stored e)
 
@@ -136,7 +136,7 @@ module _ (events : List Stored) (graph : IsGraph events) where
       ∙ ap (λ ss. state_with (resolved_of events ss) stored) states
       ∙ sym (ap (state_with_found (before_by m)) found)
     where
-      before_by : ℕ → Data → StateMap
+      before_by : ℕ → Event → StateMap
       before_by steps event = resolved_of events (map (after_within events steps) (prev_events_of event))
 
 -- ---- more events change no state
@@ -164,7 +164,7 @@ module _ (events more : List Stored) (graph : IsGraph (events ++ more)) where
       ∙ ap (λ state. state_with state stored) (resolved-more steps (within-more steps) (prev_events_of stored.event.event) (prev_stored events stored.event.event (stored_is_ready events id stored first found)))
       ∙ sym (ap (state_with_found (before_in events)) found)
     where
-      before_in : List Stored → Data → StateMap
+      before_in : List Stored → Event → StateMap
       before_in es event = resolved_of es (map (after_within es steps) (prev_events_of event))
 
   fewer : length events ≤ length all

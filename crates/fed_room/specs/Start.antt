@@ -1,11 +1,12 @@
--- A room that begins with some events (Matrix, Client-Server API, "Creation"; room version 10).
+-- A room that begins with some events (Matrix, Client-Server API, "Creation"; room versions 10 and 11).
 use Rattle.std.specs.Prelude.{ℕ, ◌+◌, List, [], ◌∷◌, Bool, false, Option, None, Some, option_and_then, if◌then◌else◌, codes, bytes_eq}
-use Rattle.serde_json.specs.Data.{Data}
 use Rattle.serde_json.specs.Find.{as_str, get}
+use Rattle.std.specs.List.{list_all}
+use Rattle.fed_event.specs.Version.{name_of}
+use Rattle.fed_event.specs.Event.{Event}
 use Rattle.fed_event.specs.Tests.{holds}
 use Rattle.fed_event.specs.Fields.{content_of, kind_of}
 use Rattle.fed_event.specs.Checked.{CheckedEvent}
-use Rattle.fed_auth.specs.Version.{is_known_version}
 use Rattle.fed_room_contract.specs.declared.receipt.Receipt.{Receipt}
 use Rattle.fed_room_contract.specs.declared.receipt.Receipt.TheVariants as receipt
 use Rattle.fed_room_contract.specs.Room.{Rules, RoomState, empty_room, is_accepted, receipt_of, after_receipt}
@@ -14,18 +15,26 @@ use Rattle.fed_room.specs.declared.start_fault.StartFault.TheVariants.{Empty, No
 
 -- ---- the first event
 
-abbrev pub is_create_event : Data → Bool
+abbrev pub is_create_event : Event → Bool
 is_create_event event = bytes_eq (kind_of event) (codes "m.room.create")
 
--- a create event that has no version is of version 1
-abbrev pub has_known_version : Data → Bool
-has_known_version event = holds is_known_version (option_and_then as_str (get (codes "room_version") (content_of event)))
+-- the version that a create event names: one that names none is of version 1
+abbrev pub version_in : Event → Option (List ℕ)
+version_in create = option_and_then as_str (get (codes "room_version") (content_of create))
+
+-- the event is one of the version of this name
+abbrev pub is_of_version : List ℕ → CheckedEvent → Bool
+is_of_version name event = bytes_eq (name_of event.event.version) name
+
+-- the create event names a version, of which they all are
+abbrev pub are_of_one_version : Event → List CheckedEvent → Bool
+are_of_one_version create events = holds (λ name. list_all (is_of_version name) events) (version_in create)
 
 -- why no room begins with a first event like that
 abbrev pub first_fault_of : List CheckedEvent → Option StartFault
 first_fault_of [] = Some Empty
 first_fault_of (first ∷ others) =
-    if is_create_event first.event then (if has_known_version first.event then None else Some Version) else Some NotCreate
+    if is_create_event first.event then (if are_of_one_version first.event (first ∷ others) then None else Some Version) else Some NotCreate
 
 -- ---- all events
 

@@ -2,7 +2,7 @@
 -- 2, "State resolution"): after each event, before an event, and the current one.
 use Rattle.std.specs.Prelude.{ℕ, zero, suc, List, Option, None, Some, length, map, if◌then◌else◌}
 use Rattle.std.specs.FinMap as finite
-use Rattle.serde_json.specs.Data.{Data}
+use Rattle.fed_event.specs.Event.{Event}
 use Rattle.fed_event.specs.Fields.{prev_events_of}
 use Rattle.fed_room_contract.specs.declared.graph.Stored.{Stored}
 use Rattle.fed_room_contract.specs.State.{StateMap}
@@ -16,7 +16,7 @@ use Rattle.fed_resolve.specs.Resolution.{resolved_of}
 abbrev pub state_with : StateMap → Stored → StateMap
 state_with before stored = if is_rejected stored then before else with_stored before stored
 
-abbrev pub state_with_found : (Data → StateMap) → Option Stored → StateMap
+abbrev pub state_with_found : (Event → StateMap) → Option Stored → StateMap
 state_with_found before None = finite.empty
 state_with_found before (Some stored) = state_with (before stored.event.event) stored
 
@@ -36,7 +36,7 @@ module _ (events : List Stored) where
   resolved_after ids = resolved_of events (map state_after ids)
 
   -- the state before an event: the states after its prev events, resolved
-  abbrev pub state_before : Data → StateMap
+  abbrev pub state_before : Event → StateMap
   state_before event = resolved_after (prev_events_of event)
 
   -- the current state: the states after the forward extremities, resolved

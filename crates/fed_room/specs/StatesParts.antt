@@ -1,6 +1,6 @@
 -- Kept states and places of them, for the clauses of private functions.
 use Rattle.std.specs.Prelude.{◌≡◌, ◌≢◌, ◌<◌, ℕ, ⊤, [], List, All, IfSome, length}
-use Rattle.serde_json.specs.Data.{Data}
+use Rattle.fed_event.specs.Event.{Event}
 use Rattle.fed_event.specs.EventId.{event_id_of}
 use Rattle.fed_event.specs.Fields.{kind_of, state_key_of}
 use Rattle.fed_auth.specs.AuthState.{with_id_at}
@@ -50,7 +50,7 @@ pub record IsOne (states : List StateMap) (places : List ℕ) (place : ℕ) : Ty
   pub same : All (λ other. state_at states other ≡ state_at states place) places
 
 -- the state after an event that an `After` stands for, beside these states
-abbrev pub after_seen : List StateMap → Data → After → StateMap
+abbrev pub after_seen : List StateMap → Event → After → StateMap
 after_seen states event (Same place) = state_at states place
 after_seen states event (Laid place) = with_id_at (state_at states place) (kind_of event) (state_key_of event) (event_id_of event)
 after_seen states event (Changed over state keys) = state

@@ -2,7 +2,7 @@
 use Rattle.std.specs.Prelude.{ℕ, List, Bool, Option, Some, None, filter, refl}
 use Rattle.std.specs.List.{list_any}
 use Rattle.std.specs.Str.{bytes_eq}
-use Rattle.serde_json.specs.Data.{Data}
+use Rattle.fed_event.specs.Event.{Event}
 use Rattle.fed_event.specs.EventId.{event_id_of}
 use Rattle.fed_room_contract.specs.declared.graph.Stored.{Stored}
 use Rattle.fed_room_contract.specs.Graph.{is_stored, named_by}
@@ -38,15 +38,15 @@ abbrev pub keeping : (List ℕ → Bool) → StateMap → StateMap
 keeping passes state = finite.from_entries (filter (λ e. passes e.1) (finite.entries state))
 
 -- the event names the event of this id
-abbrev pub is_named : Data → List ℕ → Bool
+abbrev pub is_named : Event → List ℕ → Bool
 is_named event id = list_any (λ named. bytes_eq named id) (named_by event)
 
 -- nothing holds before an event without a row; else what the row has of events that the event names
-abbrev pub before_in : Option Row → Data → StateMap
+abbrev pub before_in : Option Row → Event → StateMap
 before_in None event = finite.empty
 before_in (Some row) event = keeping (is_named event) row.before
 
-abbrev pub before_at : TableState → Data → StateMap
+abbrev pub before_at : TableState → Event → StateMap
 before_at table event = before_in (finite.get table.rows (event_id_of event)) event
 
 -- what the current state has of stored events

@@ -3,7 +3,7 @@ use Rattle.std.specs.Prelude.{◌≡◌, true, Some, refl}
 use Rattle.std.specs.Coded.{Coded, code_by, coded×}
 use Rattle.fed_room_contract.specs.Graph.{is_ready}
 use Rattle.fed_room_contract.specs.Prepared.{PreparedEvent}
-use Rattle.fed_room_contract.specs.Room.{Rules, RoomState, event_id}
+use Rattle.fed_room_contract.specs.Room.{Rules, RoomState, event_id, version_of}
 use Rattle.fed_room_contract.specs.Store.{StoreState, store_code}
 use Rattle.fed_room.specs.Table.{TableState, table_code, verdict_at, before_at, current_at}
 use Rattle.fed_room.specs.Parts.{no_links, parts_of}
@@ -25,7 +25,7 @@ rules_of table = record {
   decide = λ _ event. verdict_at table (event_id event);
   before = λ _ event. before_at table event;
   current = λ events. current_at table events;
-  parts = λ _ draft. parts_of no_links draft;
+  parts = λ events draft. parts_of (no_links (version_of events)) draft;
 }
 
 -- the store has room for the event, which is ready

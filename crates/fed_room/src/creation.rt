@@ -11,13 +11,12 @@ ghost use Rattle.fed_room.specs.LineParts.{line_seen};
 use crate::drafting::is_own_user;
 use crate::line::Line;
 use crate::started_fault::StartedFault;
-use fed_auth::ROOM_VERSION;
-use fed_event::{Checked, Keys, PduFault};
+use fed_event::{Checked, Keys, PduFault, Version};
 use fed_json::{Json, NoMemory};
 use fed_room_contract::Draft;
 use std::alloc::Global;
 
-/// The events that a room of version 10 of these users begins with (Client-Server API, "Creation"): the first user creates it, joins it,
+/// The events that a room of this version and these users begins with (Client-Server API, "Creation"): the first user creates it, joins it,
 /// has power level 100 and opens it to all, and then each further user joins it, in order. Each event names the one before it, has the
 /// auth events that the state after that one selects, is dated 0, and is signed by the first of the keys whose server is its sender's.
 ///
@@ -30,12 +29,13 @@ use std::alloc::Global;
 /// events or of the last.
 pub fn started<K: Keys>(
     alloc: Global,
+    version: Version,
     room: &str,
     users: &[String],
     keys: &[K],
 ) -> Result<Vec<Checked>, StartedFault>
-    ensures ok { IfOk result (λ events. started_of (signer_by K.own_name K.own_key K.own_signature K.checks) keys.now room.now (map string_bytes users.now) ≡ Ok events.items) }
-    ensures fails { IfErr result (λ fault. fault ≢ Memory → started_of (signer_by K.own_name K.own_key K.own_signature K.checks) keys.now room.now (map string_bytes users.now) ≡ Err fault) }
+    ensures ok { IfOk result (λ events. started_of (signer_by K.own_name K.own_key K.own_signature K.checks) keys.now version room.now (map string_bytes users.now) ≡ Ok events.items) }
+    ensures fails { IfErr result (λ fault. fault ≢ Memory → started_of (signer_by K.own_name K.own_key K.own_signature K.checks) keys.now version room.now (map string_bytes users.now) ≡ Err fault) }
     ensures no_user { users.now ≡ [] → result ≡ Err NoUser }
     ensures no_keys { IfSome (keyless (signer_by K.own_name K.own_key K.own_signature K.checks) keys.now 1 (map string_bytes users.now)) (λ place. result ≡ Err (NoKeys place)) }
 {
@@ -45,8 +45,8 @@ pub fn started<K: Keys>(
     if let Some(place) = keyless(users, keys) {
         return Err(StartedFault::NoKeys(place));
     }
-    let drafts = drafts(alloc, room, first, others)?;
-    let line = line(alloc, drafts, keys)?;
+    let drafts = drafts(alloc, version, room, first, others)?;
+    let line = line(alloc, version, drafts, keys)?;
     Ok(line.events)
 }
 
@@ -75,11 +75,16 @@ fn keys_of<'a, K: Keys>(keys: &'a [K], user: &str) -> Option<&'a K>
 }
 
 // The events of these drafts, one after another.
-fn line<K: Keys>(alloc: Global, drafts: Vec<Draft>, keys: &[K]) -> Result<Line, PduFault>
-    ensures ok { IfOk result (λ line. after_drafts (signer_by K.own_name K.own_key K.own_signature K.checks) keys.now (Ok empty_line) drafts.items ≡ Ok (line_seen line)) }
-    ensures fails { IfErr result (λ fault. fault ≢ PduFault.Memory → after_drafts (signer_by K.own_name K.own_key K.own_signature K.checks) keys.now (Ok empty_line) drafts.items ≡ Err fault) }
+fn line<K: Keys>(
+    alloc: Global,
+    version: Version,
+    drafts: Vec<Draft>,
+    keys: &[K],
+) -> Result<Line, PduFault>
+    ensures ok { IfOk result (λ line. after_drafts (signer_by K.own_name K.own_key K.own_signature K.checks) keys.now (Ok (empty_line version)) drafts.items ≡ Ok (line_seen line)) }
+    ensures fails { IfErr result (λ fault. fault ≢ PduFault.Memory → after_drafts (signer_by K.own_name K.own_key K.own_signature K.checks) keys.now (Ok (empty_line version)) drafts.items ≡ Err fault) }
 {
-    let mut line = Line::empty(alloc);
+    let mut line = Line::empty(alloc, version);
     for draft in drafts {
         line = with_draft(alloc, line, draft, keys)?;
     }
@@ -106,32 +111,40 @@ fn with_draft<K: Keys>(
 
 // ---- the drafts
 
-fn drafts(alloc: Global, room: &str, first: &str, others: &[String]) -> Result<Vec<Draft>, NoMemory>
-    ensures { IfOk result (λ drafts. drafts.items ≡ drafts_of room.now first.now (map string_bytes others.now)) }
+fn drafts(
+    alloc: Global,
+    version: Version,
+    room: &str,
+    first: &str,
+    others: &[String],
+) -> Result<Vec<Draft>, NoMemory>
+    ensures { IfOk result (λ drafts. drafts.items ≡ drafts_of version room.now first.now (map string_bytes others.now)) }
 {
-    let mut drafts = founding(alloc, room, first)?;
+    let mut drafts = founding(alloc, version, room, first)?;
     for user in others {
         drafts.push(joining(alloc, room, user)?)?;
     }
     Ok(drafts)
 }
 
-fn founding(alloc: Global, room: &str, user: &str) -> Result<Vec<Draft>, NoMemory>
-    ensures { IfOk result (λ drafts. drafts.items ≡ drafts_of room.now user.now []) }
+fn founding(alloc: Global, version: Version, room: &str, user: &str) -> Result<Vec<Draft>, NoMemory>
+    ensures { IfOk result (λ drafts. drafts.items ≡ drafts_of version room.now user.now []) }
 {
     let mut drafts = Vec::new(alloc);
-    drafts.push(creation(alloc, room, user)?)?;
+    drafts.push(creation(alloc, version, room, user)?)?;
     drafts.push(joining(alloc, room, user)?)?;
     drafts.push(power_levels(alloc, room, user)?)?;
     drafts.push(join_rules(alloc, room, user)?)?;
     Ok(drafts)
 }
 
-fn creation(alloc: Global, room: &str, user: &str) -> Result<Draft, NoMemory>
-    ensures { IfOk result (λ draft. draft ≡ creation room.now user.now) }
+fn creation(alloc: Global, version: Version, room: &str, user: &str) -> Result<Draft, NoMemory>
+    ensures { IfOk result (λ draft. draft ≡ creation version room.now user.now) }
 {
-    let mut content = only(alloc, "room_version", text(alloc, ROOM_VERSION)?)?;
-    content.put(String::from_str(alloc, "creator")?, text(alloc, user)?)?;
+    let mut content = only(alloc, "room_version", text(alloc, version.name())?)?;
+    if version.names_creator() {
+        content.put(String::from_str(alloc, "creator")?, text(alloc, user)?)?;
+    }
     state_draft(alloc, room, user, "m.room.create", "", content)
 }
 

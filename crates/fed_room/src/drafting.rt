@@ -101,8 +101,9 @@ pub(crate) fn sealed<K: Keys>(
     ensures prev_events { IfOk result (λ event. prev_events_of event.event ≡ links.prev_events.items) }
     ensures auth_events { IfOk result (λ event. auth_events_of event.event ≡ links.auth_events.items) }
 {
+    let version = links.version;
     let parts = parts(alloc, draft, links)?;
-    let event = seal(alloc, parts, keys)?;
+    let event = seal(alloc, version, parts, keys)?;
     Ok(event)
 }
 
@@ -117,7 +118,7 @@ pub(crate) fn is_own_user<K: Keys>(sender: &str, keys: &K) -> bool
 fn parts(alloc: Global, draft: Draft, links: Links) -> Result<Json, NoMemory>
     requires shallow { depth draft.content < max_depth }
     requires whole { is_whole (of_integer links.depth) ≡ true }
-    ensures parts { IfOk result (λ parts. parts ≡ parts_of (links_seen links) draft) }
+    ensures parts { IfOk result (λ parts. parts ≡ (parts_of (links_seen links) draft).value) }
     ensures moment { OnOk result (draft.at_ms ≤ 9007199254740991) }
 {
     let Draft {
@@ -132,6 +133,7 @@ fn parts(alloc: Global, draft: Draft, links: Links) -> Result<Json, NoMemory>
         auth_events,
         prev_events,
         depth,
+        ..
     } = links;
     let auth_events = array(alloc, auth_events)?;
     let prev_events = array(alloc, prev_events)?;

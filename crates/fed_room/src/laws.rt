@@ -1,7 +1,7 @@
 // What holds of the states of a room, of the events that it makes, and of all rooms that begin with some events.
 ghost use Rattle.std.specs.Prelude.{◌≡◌, ◌≤ℤ◌, ◌+ℤ◌, ◌-◌, ◌^◌, ℕ, ℤ, pos, negsuc, true, List, ◌++◌, map};
 ghost use Rattle.std.specs.Int.{int_min};
-ghost use Rattle.serde_json.specs.Data.{Data};
+ghost use Rattle.fed_event.specs.Event.{Event};
 ghost use Rattle.fed_event.specs.Fields.{prev_events_of, depth_of};
 ghost use Rattle.fed_event.specs.Checked.{CheckedEvent};
 ghost use Rattle.fed_room_contract.specs.declared.input.Input.{Input};
@@ -23,7 +23,7 @@ ghost use Rattle.fed_room.specs.States.{state_after};
 /// The state before an event is what the states after its prev events resolve to. The state after a stored event is the state before it,
 /// with the event's own entry laid over it where it is a state event and was not rejected; and no others are the states after the events.
 pub fn states_follow_the_events()
-    ensures before { (events : List Stored) (event : Data) → room_rules.before events event ≡ before_by events (state_after events) event }
+    ensures before { (events : List Stored) (event : Event) → room_rules.before events event ≡ before_by events (state_after events) event }
     ensures after { (events : List Stored) → IsGraph events → AreStatesAfter events (state_after events) }
     ensures only { (events : List Stored) (after : List ℕ → StateMap) (id : List ℕ) → IsGraph events → AreStatesAfter events after
         → is_stored events id ≡ true → after id ≡ state_after events id }

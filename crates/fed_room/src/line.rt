@@ -11,24 +11,26 @@ ghost use Rattle.fed_room.specs.LinksParts.{links_seen};
 use crate::decision::state_with;
 use crate::drafting::{check_depth, sealed};
 use crate::links::{Links, next_depth, selection};
-use fed_event::{Checked, EventId, Keys, PduFault};
+use fed_event::{Checked, EventId, Keys, PduFault, Version};
 use fed_json::NoMemory;
 use fed_room_contract::{Draft, State, StateRef, Verdict};
 use std::alloc::Global;
 
-/// Events each of which names the one before it, all of them accepted, and the state after the last.
+/// Events of a room of this version, each of which names the one before it, all of them accepted, and the state after the last.
 #[derive(Drop)]
 pub(crate) struct Line {
+    pub(crate) version: Version,
     pub(crate) events: Vec<Checked>,
     pub(crate) state: State,
 }
 
 impl Line {
-    /// No events.
-    pub(crate) fn empty(alloc: Global) -> Line
-        ensures { line_seen result ≡ empty_line }
+    /// No events, of a room of this version.
+    pub(crate) fn empty(alloc: Global, version: Version) -> Line
+        ensures { line_seen result ≡ empty_line version }
     {
         Line {
+            version,
             events: Vec::new(alloc),
             state: State::new(alloc),
         }
@@ -61,10 +63,18 @@ impl Line {
     fn with(self, alloc: Global, event: Checked) -> Result<Line, NoMemory>
         ensures { IfOk result (λ line. line_seen line ≡ with_next (line_seen self) event) }
     {
-        let Line { mut events, state } = self;
+        let Line {
+            version,
+            mut events,
+            state,
+        } = self;
         let state = state_with(alloc, state, &event, Verdict::Accepted)?;
         events.push(event)?;
-        Ok(Line { events, state })
+        Ok(Line {
+            version,
+            events,
+            state,
+        })
     }
 
     // What the event of a draft names where it comes next.
@@ -74,6 +84,7 @@ impl Line {
     {
         let last = self.events.last();
         Ok(Links {
+            version: self.version,
             auth_events: selection(alloc, draft, StateRef::Whole(&self.state))?,
             prev_events: prev_events_after(alloc, last)?,
             depth: depth_after_event(last),

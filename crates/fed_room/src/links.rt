@@ -13,7 +13,7 @@ ghost use Rattle.fed_room.specs.LinksParts.{links_seen};
 ghost use Rattle.fed_room.specs.Parts.{no_links};
 
 use fed_auth::Selector;
-use fed_event::{EventId, MAX_PREV_EVENTS};
+use fed_event::{EventId, MAX_PREV_EVENTS, Version};
 use fed_json::NoMemory;
 use fed_room_contract::{Draft, Graph, StateRef};
 use std::alloc::Global;
@@ -22,9 +22,10 @@ use std::cmp::Ordering;
 // The greatest number of an event: 2^53 - 1.
 const MAX_WHOLE: i64 = 9_007_199_254_740_991;
 
-/// The ids of the events that an event names, and its depth.
+/// What an event has of its room: the version, the ids of the events that it names, and its depth.
 #[derive(Drop)]
 pub(crate) struct Links {
+    pub(crate) version: Version,
     pub(crate) auth_events: Vec<EventId>,
     pub(crate) prev_events: Vec<EventId>,
     pub(crate) depth: i64,
@@ -32,10 +33,11 @@ pub(crate) struct Links {
 
 impl Links {
     /// Those of an event that names none.
-    pub(crate) fn none(alloc: Global) -> Links
-        ensures { links_seen result ≡ no_links }
+    pub(crate) fn none(alloc: Global, version: Version) -> Links
+        ensures { links_seen result ≡ no_links version }
     {
         Links {
+            version,
             auth_events: Vec::new(alloc),
             prev_events: Vec::new(alloc),
             depth: 1,

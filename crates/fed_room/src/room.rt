@@ -1,6 +1,8 @@
 // A room by the standard.
 ghost use Rattle.std.specs.Prelude.{◌≡◌, ◌≢◌, true, false, None, Some, Err, IfOk, IfErr, OnOk, OnErr, IsNone, string_bytes};
 ghost use Rattle.std.specs.List.{list_all};
+ghost use Rattle.serde_json.specs.Find.{of_integer};
+ghost use Rattle.fed_json.specs.Profile.{is_whole};
 ghost use Rattle.fed_room_contract.specs.Graph.{is_stored, is_ready};
 ghost use Rattle.fed_room_contract.specs.Room.{empty_room, event_id};
 ghost use Rattle.fed_room_contract.specs.Store.{after_store, with_room_for};
@@ -207,6 +209,7 @@ impl Room {
     // What the event of a draft names, and the state before that event.
     fn links(&self, alloc: Global, draft: &Draft) -> Result<(Links, Resolved<'_>), NoMemory>
         ensures links { IfOk result (λ r. links_seen r.0 ≡ links_of self.now.store.room.stored draft.now) }
+        ensures whole { IfOk result (λ r. is_whole (of_integer r.0.depth) ≡ true) }
         ensures kept { IfOk result (λ r. IsKeptIn (states_after self.now.store.room.stored) r.1) }
         ensures before { IfOk result (λ r. seen r.1 ≡ resolved_after self.now.store.room.stored r.0.prev_events.items) }
     {
@@ -216,6 +219,7 @@ impl Room {
         let auth_events = selection(alloc, draft, before.state())?;
         let depth = depth_after(graph, &prev_events);
         let links = Links {
+            version: self.store.version(),
             auth_events,
             prev_events,
             depth,

@@ -1,15 +1,13 @@
 // A room that begins with some events.
-ghost use Rattle.std.specs.Prelude.{◌≡◌, ◌≢◌, true, false, None, Some, Err, IfOk, IfErr, OnOk, OnErr, option_map, option_and_then, codes};
-ghost use Rattle.serde_json.specs.Find.{as_str, get};
-ghost use Rattle.fed_event.specs.Fields.{content_of};
+ghost use Rattle.std.specs.Prelude.{◌≡◌, ◌≢◌, true, false, None, Some, Err, IfOk, IfErr, OnOk, OnErr, option_map};
 ghost use Rattle.fed_room.specs.declared.start_fault.StartFault.TheVariants.{Memory, Empty, NotCreate, Version, NotAccepted};
+ghost use Rattle.std.specs.List.{list_all};
 ghost use Rattle.fed_room_contract.specs.Room.{empty_room, receipt_of, after_receipt};
 ghost use Rattle.fed_room.specs.Room.{room_of, room_rules};
-ghost use Rattle.fed_room.specs.Start.{is_create_event, has_known_version, first_fault_of, is_taken, after_all, start_fault_of};
+ghost use Rattle.fed_room.specs.Start.{is_create_event, version_in, is_of_version, are_of_one_version, first_fault_of, is_taken, after_all, start_fault_of};
 
 use crate::room::Room;
 use crate::start_fault::StartFault;
-use fed_auth::is_known_version;
 use fed_event::{Checked, Pdu};
 use fed_room_contract::Receipt;
 use std::alloc::Global;
@@ -20,7 +18,7 @@ impl Room {
     /// # Errors
     ///
     /// The first of these: `Empty` where there are no events; `NotCreate` where the first is no `m.room.create` event; `Version` where
-    /// its content has a `room_version` other than `10`, or none; `NotAccepted` for the first event that is not stored as accepted.
+    /// its content has no `room_version`, or where some event is of another version than that; `NotAccepted` for the first event that is not stored as accepted.
     /// `Memory` where memory ran out, in place of a room or of the last.
     pub fn start(alloc: Global, own: &str, events: Vec<Checked>) -> Result<Room, StartFault>
         ensures room { IfOk result (λ room. room_of room ≡ after_all room_rules empty_room events.items) }
@@ -71,7 +69,7 @@ fn first_fault(events: &[Checked]) -> Option<StartFault>
     };
     if !is_create_event(first.event()) {
         Some(StartFault::NotCreate)
-    } else if !has_known_version(first.event()) {
+    } else if !are_of_one_version(first.event(), events) {
         Some(StartFault::Version)
     } else {
         None
@@ -84,20 +82,39 @@ fn is_create_event(event: &Pdu) -> bool
     event.kind() == "m.room.create"
 }
 
-// Whether a create event gives a known room version: one that gives none makes a room of version 1.
-fn has_known_version(event: &Pdu) -> bool
-    ensures { result ≡ has_known_version event.now }
+// Whether the create event names a version of which all events are: one that names none makes a room of version 1.
+fn are_of_one_version(create: &Pdu, events: &[Checked]) -> bool
+    ensures { result ≡ are_of_one_version create.now events.now }
 {
-    match version(event) {
-        Some(version) => is_known_version(version),
+    match version(create) {
+        Some(name) => are_of_version(name, events),
         None => false,
     }
 }
 
-fn version(event: &Pdu) -> Option<&str>
-    ensures { option_map (λ s. s.now) result ≡ option_and_then as_str (get (codes "room_version") (content_of event.now)) }
+// Whether all events are of the version of this name.
+fn are_of_version(name: &str, events: &[Checked]) -> bool
+    ensures { result ≡ list_all (is_of_version name.now) events.now }
 {
-    event.content().member("room_version")?.text()
+    for event in events {
+        if !is_of_version(name, event) {
+            return false;
+        }
+    }
+    true
+}
+
+// The name of the version that a create event names.
+fn version(create: &Pdu) -> Option<&str>
+    ensures { option_map (λ s. s.now) result ≡ version_in create.now }
+{
+    create.content().member("room_version")?.text()
+}
+
+fn is_of_version(name: &str, event: &Checked) -> bool
+    ensures { result ≡ is_of_version name.now event.now }
+{
+    event.event().version().name() == name
 }
 
 // Whether an event is stored as accepted.

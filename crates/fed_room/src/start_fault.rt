@@ -18,8 +18,8 @@ pub enum StartFault {
     /// The first is no create event.
     #[error("no create event first")]
     NotCreate,
-    /// The first gives another room version than 10.
-    #[error("not room version 10")]
+    /// The first names no room version, or some event is of another one.
+    #[error("not of one known room version")]
     Version,
     /// The event at this place, counted from 1, is not stored as accepted; this becomes of it.
     #[error("event {0} is not accepted")]

@@ -89,7 +89,7 @@ impl RoomEngine for TableRoom {
         keys: &K,
     ) -> Result<Prepared, Refusal> {
         check(&draft, keys)?;
-        let event = made(alloc, draft, Links::none(alloc), keys)?;
+        let event = made(alloc, draft, Links::none(alloc, self.store.version()), keys)?;
         if let Some(rule) = self.table.verdict(event.event().id().as_str()).rule() {
             return Err(Refusal::NotAllowed(rule));
         }

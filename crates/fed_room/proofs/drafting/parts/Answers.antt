@@ -28,4 +28,4 @@ returns-clause-parts c =
     let six = step (codes "room_id") c.in_ok-put-6.ensures c.from.ensures five in
     let seven = step (codes "sender") c.in_ok-put-7.ensures c.from-2.ensures six in
     let all : c.put-8.new.event ≡ fields_of links (draft_of inside) = step (codes "type") c.in_ok-put-8.ensures c.from-3.ensures seven in
-    IfOk-weaker c.with_state_key.result _ _ (λ event same. same ∙ ap (with_state_key (option_map string_bytes inside.state_key)) all ∙ ap (parts_of links) c.draft.view_is) c.with_state_key.ensures
+    IfOk-weaker c.with_state_key.result _ _ (λ event same. same ∙ ap (with_state_key (option_map string_bytes inside.state_key)) all ∙ ap (λ draft. (parts_of links draft).value) c.draft.view_is) c.with_state_key.ensures

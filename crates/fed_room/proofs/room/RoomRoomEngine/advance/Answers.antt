@@ -2,7 +2,7 @@ use Rattle.std.proofs.Common.{◌≡◌, List, [], ◌∷◌, ◌++◌, Option, 
 use Rattle.std.proofs.lemmas.Option.{slice_get_read}
 use Rattle.std.specs.Prelude.{option_map}
 use Rattle.std.specs.List.{slice_get, slice_index_or}
-use Rattle.serde_json.specs.Data.{Data}
+use Rattle.fed_event.specs.Event.{Event}
 use Rattle.fed_event.specs.Checked.{CheckedEvent}
 use Rattle.fed_event.specs.EventId.{event_id_of}
 use Rattle.fed_room_contract.specs.declared.graph.Stored.{Stored}
@@ -51,7 +51,7 @@ invariant_of-self-2 c =
     let pushed : c.push_next.new.self ≡ record { after = kept ++ next ∷ []; next = None } =
     subst (λ (s : KeptStates). IfSome s.next (λ state. c.push_next.new.self ≡ record { after = s.after ++ state ∷ []; next = None })) c.in_ok-keep.ensures.ok c.push_next.ensures in
     let after : next ≡ state_with (state_before old.room.stored event.event) last =
-    ap (λ (e : Data). after_seen kept e c.in_ok-verdict.after) seen
+    ap (λ (e : Event). after_seen kept e c.in_ok-verdict.after) seen
     ∙ ap (λ (xs : List StateMap). after_seen xs event.event c.in_ok-verdict.after) c.self.invariant.after
     ∙ sym (ap (λ (e : CheckedEvent). after_seen (states_after old.room.stored) e.event c.in_ok-verdict.after) copied)
     ∙ ap (λ (r : RoomValue). after_seen (states_after r.store.room.stored) c.in_ok-waiting.waiting.event c.in_ok-verdict.after) c.self.view_is ∙ c.in_ok-verdict.ensures.after

@@ -1,7 +1,7 @@
 use Rattle.std.proofs.Common.{rules, ◌≡◌, List, true, Ok, Err, Some, refl, sym, ap, ◌∙◌, subst, inl}
 use Rattle.std.specs.Arc.{arc_value}
 use Rattle.std.specs.List.{list_all}
-use Rattle.serde_json.specs.Data.{Data}
+use Rattle.fed_event.specs.Event.{Event}
 use Rattle.fed_event.specs.Checked.{CheckedEvent}
 use Rattle.fed_room_contract.specs.Graph.{IsGraph, is_stored, is_ready}
 use Rattle.fed_room_contract.specs.Lawful.{NamesStored}
@@ -103,7 +103,7 @@ returns-clause-prepared g c =
     let given : c.event-event.result.now ≡ event.event = c.event-event.ensures.event ∙ ap (λ (e : CheckedEvent). e.event) (c.event-2.ensures ∙ ap (λ (p : PreparedEvent). p.event) c.in_ok-prepared.ensures) in
     let next : c.keep.new.states.next ≡ Some (state_with (state_before c.keep.new.store.room.stored event.event) last) =
     ap (λ (s : KeptStates). s.next) c.in_ok-keep.ensures.ok ∙ ap (λ (s : KeptStates). Some (after_seen s.after c.event-event.result.now c.in_ok-after.after)) same
-    ∙ ap (λ (e : Data). Some (after_seen states e c.in_ok-after.after)) given ∙ ap (λ (b : StateMap). Some b) after
+    ∙ ap (λ (e : Event). Some (after_seen states e c.in_ok-after.after)) given ∙ ap (λ (b : StateMap). Some b) after
     ∙ ap (λ (events : List Stored). Some (state_with (state_before events event.event) (record { event = event; verdict = Accepted }))) (sym now) in
     record {
       reserved = search rules;

@@ -10,7 +10,7 @@ use Rattle.fed_room.specs.Table.{before_at, verdict_at}
 use Rattle.fed_room.specs.TableRoom.{TableRoomState, room_of, rules_of}
 use Rattle.fed_room.specs.LinksParts.{links_seen}
 use Rattle.fed_room_contract.specs.declared.graph.Stored.{Stored}
-use Rattle.fed_room_contract.specs.Room.{event_id}
+use Rattle.fed_room_contract.specs.Room.{event_id, version_of}
 use Rattle.fed_room_contract.specs.Store.{StoreState}
 use Rattle.fed_room.proofs.Allowing.{prepared-event, prepared-unmade, refused-by, accepted-by}
 use Rattle.fed_room.proofs.Made.{ready_naming}
@@ -21,7 +21,9 @@ returns-in_err-check-clause-told g c =
     let keys = c.args.keys.now in
     let signer = signer_of (g.K.Keys.own_name keys) (g.K.Keys.own_key keys) (g.K.Keys.own_signature keys) (g.K.Keys.checks keys) in
     let told : c.from_residual.result ≡ Err c.in_err-check.field-0.0 = search rules in
-    inl (told ∙ sym (prepared-unmade (rules_of c.args.self.now.table) signer (room_of c.args.self.now).stored no_links c.args.draft refl _ (c.in_err-check.ensures.told no_links)))
+    let stored = (room_of c.args.self.now).stored in
+    let links = no_links (version_of stored) in
+    inl (told ∙ sym (prepared-unmade (rules_of c.args.self.now.table) signer stored links c.args.draft refl _ (c.in_err-check.ensures.told links)))
 
 pub returns-in-Some-clause-told : goal.returns-in-Some-clause-told
 returns-in-Some-clause-told g c =
@@ -30,7 +32,8 @@ returns-in-Some-clause-told g c =
     let table = c.args.self.now.table in
     let stored = (room_of c.args.self.now).stored in
     let event = c.in_ok-event.event in
-    let prepared = prepared-event (rules_of table) signer stored c.args.draft no_links (links_seen c.none.result) refl c.none.ensures event c.in_ok-event.ensures.told in
+    let links = c.none.ensures ∙ ap no_links (c.version.ensures ∙ ap (λ (r : TableRoomState). version_of r.store.room.stored) c.self.view_is) in
+    let prepared = prepared-event (rules_of table) signer stored c.args.draft (no_links (version_of stored)) (links_seen c.none.result) refl links event c.in_ok-event.ensures.told in
     let decided : verdict_at table (event_id event) ≡ c.verdict.result = search rules in
     inl (sym (prepared ∙ refused-by (rules_of table) signer stored event c.verdict.result c.in-Some.rule decided (sym c.rule.ensures ∙ c.in-Some.is)))
 
@@ -41,7 +44,8 @@ returns-clause-told g c =
     let table = c.args.self.now.table in
     let stored = (room_of c.args.self.now).stored in
     let event = c.in_ok-event.event in
-    let prepared = prepared-event (rules_of table) signer stored c.args.draft no_links (links_seen c.none.result) refl c.none.ensures event c.in_ok-event.ensures.told in
+    let links = c.none.ensures ∙ ap no_links (c.version.ensures ∙ ap (λ (r : TableRoomState). version_of r.store.room.stored) c.self.view_is) in
+    let prepared = prepared-event (rules_of table) signer stored c.args.draft (no_links (version_of stored)) (links_seen c.none.result) refl links event c.in_ok-event.ensures.told in
     let decided : verdict_at table (event_id event) ≡ c.verdict.result = search rules in
     let made : c.in_ok-prepared.prepared ≡ record { event = event; before = before_at table event.event } = search rules in
     inl (ap (λ (p : PreparedEvent). Ok p) made ∙ sym (prepared ∙ accepted-by (rules_of table) signer stored event c.verdict.result decided (sym c.rule.ensures ∙ c.in_default.is)))
