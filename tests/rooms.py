@@ -1,7 +1,7 @@
 #!/usr/bin/env python3
 """Plays rooms that are made at random, with forks by which members try to undo what others did, and compares what crates/fed_vectors/out/fed_vectors,
-after `rt run` there, or the program that is named, makes of them with what this script does: another program of room version 10, written from
-the standard alone.
+after `rt run` there, or the program that is named, makes of them with what this script does: another program of room versions 10 and 11, written
+from the standard alone.
 
     tests/rooms.py [PROGRAM] [ROOMS] [SEED]
 
@@ -24,15 +24,29 @@ ROOT = pathlib.Path(__file__).resolve().parent.parent
 ROOMS, PART = 2_000, 50
 LISTED, LISTED_IN_STATE = 8, 6
 
-# ---- events (Server-Server API, "Signing Events"; room version 10, "Redactions", "Event IDs")
+# ---- events (Server-Server API, "Signing Events"; room versions 10 and 11, "Redactions", "Event IDs")
 
 KEPT = {"auth_events", "content", "depth", "hashes", "origin_server_ts", "prev_events", "room_id", "sender", "state_key", "type"}
+KEPT_IN_10 = {"membership", "origin", "prev_state"}
 KEPT_CONTENT = {
-    "m.room.create": {"creator"},
     "m.room.join_rules": {"join_rule", "allow"},
     "m.room.member": {"membership", "join_authorised_via_users_server"},
     "m.room.power_levels": {"ban", "events", "events_default", "kick", "redact", "state_default", "users", "users_default"},
 }
+
+
+def redacted(version, fields):
+    """What redaction leaves of the fields of an event."""
+    kind, content = fields["type"], fields["content"]
+    names = KEPT_CONTENT.get(kind, set())
+    if version == "10":
+        names = names | ({"creator"} if kind == "m.room.create" else set())
+    elif kind == "m.room.create":
+        names = set(content)
+    else:
+        names = names | {"m.room.power_levels": {"invite"}, "m.room.redaction": {"redacts"}}.get(kind, set())
+    kept = {name: value for name, value in fields.items() if name in KEPT or version == "10" and name in KEPT_IN_10}
+    return kept | {"content": {name: value for name, value in content.items() if name in names}}
 
 
 def digest(value):
@@ -43,18 +57,18 @@ def digest(value):
 class Event:
     """An event with what a room made of it."""
 
-    def __init__(self, fields, prevs, auths):
+    def __init__(self, version, fields, prevs, auths):
         fields = fields | {
             "auth_events": [it.id for it in auths], "depth": 1 + max((it.fields["depth"] for it in prevs), default=0),
             "prev_events": [it.id for it in prevs], "room_id": "!r:a"}
         hashes = {"sha256": base64.b64encode(digest(fields)).decode().rstrip("=")}
-        kept = {name: value for name, value in fields.items() if name in KEPT} | {"hashes": hashes}
-        kept["content"] = {name: value for name, value in fields["content"].items() if name in KEPT_CONTENT.get(fields["type"], ())}
+        kept = redacted(version, fields | {"hashes": hashes})
         self.id = "$" + base64.urlsafe_b64encode(digest(kept)).decode().rstrip("=")
         self.fields = fields | {"hashes": hashes, "signatures": {domain(fields["sender"]): {"ed25519:1": "A" * 86}}}
         self.type, self.sender, self.content, self.at = fields["type"], fields["sender"], fields["content"], fields["origin_server_ts"]
         self.state_key = fields.get("state_key")
         self.key = None if self.state_key is None else (self.type, self.state_key)
+        self.creator = self.content.get("creator") if version == "10" else self.sender
         self.prevs, self.auths = prevs, auths
         self.chain = frozenset(auths).union(*(it.chain for it in auths))
         self.verdict, self.before, self.after = None, None, None
@@ -67,7 +81,7 @@ def domain(user):
     return user.partition(":")[2]
 
 
-# ---- authorization rules (room version 10, "Authorization rules"), by a state: events by their types and state keys
+# ---- authorization rules (room versions 10 and 11, "Authorization rules"), by a state: events by their types and state keys
 
 
 def selection(event):
@@ -88,7 +102,7 @@ class Levels:
     def __init__(self, state):
         self.event, create = state.get(("m.room.power_levels", "")), state.get(("m.room.create", ""))
         self.content = self.event.content if self.event else {}
-        self.creator = create.content["creator"] if create else None
+        self.creator = create.creator if create else None
 
     def of_user(self, user):
         if self.event is None:
@@ -133,7 +147,7 @@ def allows_member(state, levels, event):
     rule = rules.content["join_rule"] if rules else "invite"
     wanted = event.content["membership"]
     if wanted == "join":
-        if [it.type for it in event.prevs] == ["m.room.create"] and event.prevs[0].content["creator"] == target:
+        if [it.type for it in event.prevs] == ["m.room.create"] and event.prevs[0].creator == target:
             return True
         if sender != target or was == "ban":
             return False
@@ -291,6 +305,7 @@ class Author:
 
     def __init__(self, seed):
         self.dice, self.room = random.Random(seed), Room()
+        self.version = self.dice.choice(("10", "11"))
         self.users = [f"@{name}:{self.dice.choice('abc')}" for name in "uvwxyz"[: self.dice.randint(2, 6)]]
         self.users[0] = "@u:a"
         self.forks = self.dice.choice((0.1, 0.4, 0.8))
@@ -299,7 +314,9 @@ class Author:
             self.room.receive(self.next())
 
     def begin(self):
-        content = {"creator": "@u:a", "room_version": "10"}
+        content = {"creator": "@u:a", "room_version": self.version}
+        if self.version == "11":
+            content = {"room_version": "11"} | self.dice.choice(({}, {"creator": "@v:b"}, {"creator": 5, "predecessor": {}}))
         if self.dice.random() < 0.1:
             content["m.federate"] = False
         self.add("m.room.create", "@u:a", "", content)
@@ -316,8 +333,8 @@ class Author:
         room.receive(self.made(fields, prevs, prevs[0].after if prevs else {}))
 
     def made(self, fields, prevs, state):
-        bare = Event(fields, prevs, [])
-        return Event(fields, prevs, [state[key] for key in sorted(selection(bare)) if key in state])
+        bare = Event(self.version, fields, prevs, [])
+        return Event(self.version, fields, prevs, [state[key] for key in sorted(selection(bare)) if key in state])
 
     def next(self):
         dice, room = self.dice, self.room
@@ -330,7 +347,7 @@ class Author:
         fields = self.fields(before)
         event = self.made(fields, prevs, before)
         if dice.random() < 0.2:
-            event = Event(fields, prevs, self.other_auths(event))
+            event = Event(self.version, fields, prevs, self.other_auths(event))
         return event if all(event.id != it.id for it in room.events) else self.next()
 
     def other_auths(self, event):
@@ -354,8 +371,10 @@ class Author:
         dice = self.dice
         joined = [it for it in self.users if membership(state, it) == "join"]
         sender = dice.choice(joined if joined and dice.random() < 0.85 else self.users)
-        kind = dice.choices(("member", "levels", "rules", "topic", "message", "own"), (9, 4, 2, 3, 3, 1))[0]
+        kind = dice.choices(("member", "levels", "rules", "topic", "message", "own", "redaction"), (9, 4, 2, 3, 3, 1, 1))[0]
         fields = {"origin_server_ts": dice.randint(0, 60), "sender": sender, "content": {"n": dice.randint(0, 999)}, "type": "m.room.message"}
+        if dice.random() < 0.2:
+            fields[dice.choice(("age", "membership", "origin", "prev_state"))] = dice.randint(0, 9)
         if kind == "member":
             wanted = dice.choice(("join", "join", "join", "leave", "leave", "ban", "ban", "invite", "knock"))
             target = sender if wanted in ("join", "knock") and dice.random() < 0.95 else dice.choice(self.users)
@@ -366,6 +385,8 @@ class Author:
             return fields | {"type": "m.room.join_rules", "state_key": "", "content": {"join_rule": dice.choice(("public", "invite", "knock"))}}
         if kind == "topic":
             return fields | {"type": dice.choice(("m.room.topic", "m.room.name")), "state_key": dice.choice(("", "", "k"))}
+        if kind == "redaction":
+            return fields | {"type": "m.room.redaction", "content": fields["content"] | {"redacts": dice.choice(self.room.events).id}}
         if kind == "own":
             return fields | {"type": "m.x", "state_key": dice.choice((sender, *self.users))}
         return fields
@@ -401,13 +422,13 @@ def lines_of(seed):
     begun = next((place for place, it in enumerate(events) if it.verdict != "accepted"), len(events))
     begun = min(begun, 4)
     looks = dice.sample(events[begun:], min(LISTED, len(events) - begun))
-    room = {"call": "room", "keys": "trusting", "own": "a", "events": [it.fields for it in events[:begun]], "operations": [
+    room = {"call": "room", "keys": "trusting", "room_version": author.version, "own": "a", "events": [it.fields for it in events[:begun]], "operations": [
         *({"receive": it.fields} for it in events[begun:]), *({"state_before": it.id} for it in looks), {"current": None}, {"extremities": None}]}
     want = [it.verdict for it in events[begun:]], [entries(it.before) for it in looks], entries(author.room.current()), [
         it.id for it in author.room.extremities()]
     place = {it: number for number, it in enumerate(events)}
     several = [dice.sample(events, min(dice.choice((2, 2, 3, 5)), len(events))) for _ in range(LISTED_IN_STATE)]
-    resolution = {"call": "resolution", "keys": "trusting", "graph": [
+    resolution = {"call": "resolution", "keys": "trusting", "room_version": author.version, "graph": [
         {"event": it.fields, "verdict": "rejected 5" if it.verdict == "rejected" else "accepted"} for it in events],
         "operations": [{"resolve": [[place[held] for held in it.after.values()] for it in some]} for some in several]}
     wanted = [sorted(place[held] for held in resolve([it.after for it in some]).values()) for some in several]

@@ -1,6 +1,6 @@
 // Events of a room, in one line or with forks.
 use crate::stop::Stop;
-use fed_event::{Checked, Keys, PduFault, StandIn, is_sent_by, seal};
+use fed_event::{Checked, Keys, PduFault, StandIn, Version, is_sent_by, seal};
 use fed_json::{Json, MAX_LEVELS, read_within};
 use fed_room::{StartedFault, started};
 use std::alloc::Global;
@@ -29,7 +29,7 @@ pub(crate) fn beginning(alloc: Global, members: u64, keys: StandIn) -> Result<Ve
     }
     let mut rings = Vec::new(alloc);
     rings.push(keys)?;
-    match started(alloc, ROOM, &users, &rings) {
+    match started(alloc, Version::V10, ROOM, &users, &rings) {
         Ok(events) => Ok(events),
         Err(StartedFault::Memory) => Err(Stop::Memory),
         Err(_) => Err(Stop::Refused),
@@ -154,7 +154,7 @@ fn sealed<K: Keys>(alloc: Global, parts: Json, keys: &K) -> Result<Checked, Stop
     if !is_sent_by(keys.own(), &parts) {
         return Err(Stop::Refused);
     }
-    match seal(alloc, parts, keys) {
+    match seal(alloc, Version::V10, parts, keys) {
         Ok(event) => Ok(event),
         Err(PduFault::Memory) => Err(Stop::Memory),
         Err(_) => Err(Stop::Refused),

@@ -2,7 +2,7 @@
 ghost use Rattle.std.specs.Prelude.{◌≤◌};
 
 use fed_dest::{List, ServerName};
-use fed_event::StandIn;
+use fed_event::{StandIn, Version};
 use fed_hub::{KeptRoom, Setup};
 use fed_json::Json;
 use fed_room::started;
@@ -48,7 +48,7 @@ fn rooms(alloc: Global) -> Option<Vec<KeptRoom>> {
         keys.push(StandIn::new(text(alloc, name)?)).ok()?;
     }
     let users = texts(alloc, &USERS)?;
-    let events = started(alloc, ROOM, &users, &keys).ok()?;
+    let events = started(alloc, Version::V10, ROOM, &users, &keys).ok()?;
     let mut rooms = Vec::new(alloc);
     rooms.push(KeptRoom::start(alloc, OWN, events).ok()?).ok()?;
     Some(rooms)

@@ -3,6 +3,7 @@ use Rattle.std.proofs.Common.{arith, ◌≡◌, ◌⊎◌, inl, inr, ◌+◌, �
 use Rattle.std.specs.Result.{IfOk, IsErr, IsErrAnd}
 use Rattle.std.specs.declared.alloc.AllocError.{AllocError}
 use Rattle.serde_json.specs.Data.{Data}
+use Rattle.fed_event.specs.Event.{Event}
 use Rattle.fed_event.specs.declared.fault.PduFault.{PduFault}
 use Rattle.fed_event.specs.Checked.{CheckedEvent, checked_of}
 use Rattle.fed_dest.specs.Joined.{AreDestinations}
@@ -143,7 +144,7 @@ never_accepted signer events event Accepted is = cc
 never_accepted signer events event (Rejected rule) is = cc
 never_accepted signer events event (SoftFailed rule) is = cc
 
-never_made : (signer : Signer) (events : List Stored) (sealed : Data) (fault : Option PduFault) → if_event room_rules signer events sealed fault ≡ Err refusal.NotOwnUser → ⊥
+never_made : (signer : Signer) (events : List Stored) (sealed : Event) (fault : Option PduFault) → if_event room_rules signer events sealed fault ≡ Err refusal.NotOwnUser → ⊥
 never_made signer events sealed (Some fault) is = cc
 never_made signer events sealed None is = never_accepted signer events (checked_of signer.checks sealed) _ is
 

@@ -4,7 +4,7 @@ ghost use Rattle.fed_wires.specs.ReceiveEnd.{new_receiver};
 ghost use Rattle.fed_wires.specs.Seat.{AreOwners};
 
 use fed_dest::{List, ServerIndex, ServerName, ServerSet};
-use fed_event::{Checked, Pdu, StandIn, Trusting, check_in};
+use fed_event::{Checked, Pdu, StandIn, Trusting, Version, check_in};
 use fed_hub_kept::{
     are_answered, are_brought, are_given, are_in_places, are_of_journal, are_received,
     are_sent_as_stored, is_of_journal, is_sent_as_stored,
@@ -42,7 +42,7 @@ const THIRD: &str =
 // The event of a text, under keys that trust every signature.
 fn event(alloc: Global, text: &str) -> Option<Checked> {
     let keys = Trusting::new(String::from_str(alloc, "a").ok()?);
-    let event = Pdu::read(alloc, text.as_bytes()).ok()?;
+    let event = Pdu::read(alloc, Version::V10, text.as_bytes()).ok()?;
     check_in(alloc, event, &keys).ok()
 }
 
@@ -233,7 +233,7 @@ fn users(alloc: Global, room: &str) -> Option<Vec<String>> {
 
 // The events that one of the two rooms begins with. The last one of them is that a second user of a joins.
 fn beginning(alloc: Global, room: &str) -> Option<Vec<Checked>> {
-    started(alloc, room, &users(alloc, room)?, &keys(alloc)?).ok()
+    started(alloc, Version::V10, room, &users(alloc, room)?, &keys(alloc)?).ok()
 }
 
 // A message in one of the two rooms, which it has not stored.

@@ -2,7 +2,7 @@
 ghost use Rattle.std.specs.Prelude.{◌≡◌, Some, slice_get};
 ghost use Rattle.fed_wires.specs.ReceiveEnd.{new_receiver};
 
-use fed_event::{Checked, StandIn};
+use fed_event::{Checked, StandIn, Version};
 use fed_hub_rooms::{LockedRoom, Ran, RoomToken, run_room};
 use fed_hub_serving::ServingNaming;
 use fed_hub_state::KeptRoom;
@@ -28,7 +28,7 @@ fn keys(alloc: Global) -> Option<StandIn> {
 fn beginning(alloc: Global) -> Option<Vec<Checked>> {
     let users = vec![in alloc; String::from_str(alloc, USER).ok()?].ok()?;
     let keys = vec![in alloc; keys(alloc)?].ok()?;
-    started(alloc, ROOM, &users, &keys).ok()
+    started(alloc, Version::V10, ROOM, &users, &keys).ok()
 }
 
 fn draft(alloc: Global) -> Option<Draft> {

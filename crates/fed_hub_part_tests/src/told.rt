@@ -2,7 +2,7 @@
 ghost use Rattle.std.specs.Prelude.{◌≡◌};
 
 use fed_dest::{ServerIndex, ServerSet};
-use fed_event::{Checked, StandIn, is_sent_by, seal};
+use fed_event::{Checked, StandIn, Version, is_sent_by, seal};
 use fed_hub_told::{Marks, Note, Told, ToldEdu, ToldEvent, are_as_told, is_as_told};
 use fed_journal::{Cause, Entry};
 use fed_json::{Json, NoMemory, read};
@@ -29,7 +29,7 @@ fn event(alloc: Global, text: &str) -> Option<Checked> {
     if !is_sent_by("a", &parts) {
         return None;
     }
-    seal(alloc, parts, &keys).ok()
+    seal(alloc, Version::V10, parts, &keys).ok()
 }
 
 // The draft that an event of this content is made of.

@@ -1,6 +1,6 @@
 // What a hub is made of, by the words of a script.
 use fed_dest::{List, ServerName};
-use fed_event::{Checked, StandIn};
+use fed_event::{Checked, StandIn, Version};
 use fed_hub::{KeptRoom, Setup};
 use fed_room::{Room, started};
 use std::alloc::Global;
@@ -100,7 +100,7 @@ impl Scene {
         for server in &self.servers {
             keys.push(keys_of(alloc, server)?).ok()?;
         }
-        started(alloc, &room.id, &room.users, &keys).ok()
+        started(alloc, Version::V10, &room.id, &room.users, &keys).ok()
     }
 }
 

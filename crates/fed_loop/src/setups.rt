@@ -3,7 +3,7 @@ ghost use Rattle.std.specs.Prelude.{◌<◌};
 
 use crate::faults::LoopFault;
 use fed_dest::{List, ServerName};
-use fed_event::StandIn;
+use fed_event::{StandIn, Version};
 use fed_hub::{KeptRoom, Setup};
 use fed_json::NoMemory;
 use fed_room::started;
@@ -49,7 +49,7 @@ fn room(alloc: Global, server: &str) -> Result<KeptRoom, LoopFault> {
         keys.push(StandIn::new(String::from_str(alloc, name)?))?;
     }
     let users = texts(alloc, &USERS)?;
-    let events = started(alloc, ROOM, &users, &keys)?;
+    let events = started(alloc, Version::V10, ROOM, &users, &keys)?;
     Ok(KeptRoom::start(alloc, server, events)?)
 }
 

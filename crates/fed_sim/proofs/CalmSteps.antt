@@ -11,8 +11,6 @@ use Rattle.fed_outbox.specs.Outbox.{OutboxState, is_unanswered, is_due, can_cut,
 use Rattle.fed_outbox.specs.Transaction.{TransactionValue}
 use Rattle.fed_sim.specs.declared.outcome.Outcome.{Outcome}
 use Rattle.fed_sim.specs.declared.outcome.Outcome.TheVariants as outcome
-use Rattle.fed_sim.specs.declared.setup.Setup.{Setup}
-use Rattle.fed_sim.specs.declared.step.Step.{Step}
 use Rattle.fed_sim.specs.Headline.{TakesOnce, IsAnsweredOnce}
 use Rattle.fed_sim.specs.Packets as packets
 use Rattle.fed_sim.specs.Packets.{packet_at, with_packet, way_from, IsOn, IsPosted, IsTaken}

@@ -68,7 +68,7 @@ delivered_between laws o d epoch os ds way packets b =
     let edus_count : length (taken_edus_of ds.inbox os.name) ≡ length (box.settled_edus ++ landed_edus b.log epoch box.unanswered) = ap length edus_are ∙ length-map (box.settled_edus ++ landed_edus b.log epoch box.unanswered) _ in
     record {
       events =
-          prefix (λ (checked : CheckedEvent). canonical_text checked.event) (addressed os.journal d) (box.settled ++ landed b.log epoch box.unanswered) (front.0 ++ (box.waiting ++ events_of way.queue)) (taken_of ds.inbox os.name) events_are
+          prefix (λ (checked : CheckedEvent). canonical_text checked.event.value) (addressed os.journal d) (box.settled ++ landed b.log epoch box.unanswered) (front.0 ++ (box.waiting ++ events_of way.queue)) (taken_of ds.inbox os.name) events_are
           (whole box.settled (unanswered_pdus box.unanswered) box.waiting (events_of way.queue) (landed b.log epoch box.unanswered) front.0 (addressed os.journal d) (laws.events d os.journal way b.held.follows) front.1);
       edus =
           prefix canonical_text (addressed_edus os.journal d) (box.settled_edus ++ landed_edus b.log epoch box.unanswered) (front_edus.0 ++ (box.waiting_edus ++ edus_of way.queue)) (taken_edus_of ds.inbox os.name) edus_are

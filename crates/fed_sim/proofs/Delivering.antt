@@ -424,7 +424,7 @@ module _ (laws : Laws) (next : Next) (rounds : ℕ) (old new : WorldState) (come
       }
     where
       event_text : CheckedEvent → List ℕ
-      event_text checked = canonical_text checked.event
+      event_text checked = canonical_text checked.event.value
 
 pub delivers : (laws : Laws) (next : Next) (rounds : ℕ) (old new : WorldState) → ComesOfRun old → AreRounds rounds old new → CalmDelivers rounds old new
 delivers laws next rounds old new comes are early none o d before origin dest earlier way at leads enough now to leads_now =

@@ -1,12 +1,12 @@
 -- Worlds that come of runs: by each step they come of one still.
-use Rattle.std.proofs.Common.{◌≡◌, ℕ, List, [], ◌∷◌, ◌++◌, Result, Ok, Err, IfOk, OnErr, refl, sym, ap, subst}
+use Rattle.std.proofs.Common.{◌≡◌, ℕ, List, Result, Ok, Err, IfOk, OnErr, sym, ap, subst}
 use Rattle.std.proofs.Math.Logic.{∥∥₁_map}
 use Rattle.fed_sim.specs.declared.outcome.Outcome.{Outcome}
 use Rattle.fed_sim.specs.declared.setup.Setup.{Setup}
 use Rattle.fed_sim.specs.declared.step.Step.{Step}
 use Rattle.fed_sim.specs.Applying.{IsAppliedInPart, IsGivenTo, unknown_room, known_room, IsGivenInPart}
 use Rattle.fed_sim.specs.Running.{Begins, ComesOfRun, IsRun, begins_run, by_step, within_round}
-use Rattle.fed_sim.specs.Steps.{Moves, given, Reached, no_step, one_more, before_it, in_it, ReachedInPart, Does, Makes, made, Ran, begun, next}
+use Rattle.fed_sim.specs.Steps.{Moves, given, Reached, no_step, one_more, before_it, in_it, ReachedInPart, Does, made, Ran, begun, next}
 use Rattle.fed_sim.specs.World.{WorldState, with_server, AtServer, nowhere, somewhere, AtServerInPart}
 use Rattle.fed_sim.specs.Server.{ServerState}
 use Rattle.fed_sim.proofs.Between.{set_same}

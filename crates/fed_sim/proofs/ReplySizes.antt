@@ -13,7 +13,8 @@ use Rattle.fed_event.specs.declared.fault.PduFault.{PduFault}
 use Rattle.fed_event.specs.declared.fault.PduFault.TheVariants.{Memory, NotJson, NotCanonical, Missing, WrongKind, TooLarge, TooLong, TooMany, TooDeep}
 use Rattle.fed_event.specs.declared.field.Field.{Field}
 use Rattle.fed_event.specs.declared.field.Field.TheVariants.{Event, AuthEvents, Content, Depth, Hashes, OriginServerTs, PrevEvents, RoomId, Sender, Signatures, StateKey, «Type»}
-use Rattle.fed_event.specs.EventId.{event_id_of, signed_text_of}
+use Rattle.fed_event.specs.EventId.{signed_text_of}
+use Rattle.fed_inbox.specs.Elements.{read_as, element_id}
 use Rattle.fed_event.specs.Field.{field_name}
 use Rattle.fed_event.specs.Fields.{room_id_of}
 use Rattle.fed_event.specs.Keys.{Checks}
@@ -152,10 +153,10 @@ first-short None true false = omega arith
 first-short None true true = tt
 
 module _ (checks : Checks) (rooms : List (List ℕ)) where
-  verdict-short : (event : Data) → IsShort (event_id_of event, verdict_on checks rooms event)
+  verdict-short : (event : Data) → IsShort (element_id event, verdict_on checks rooms event)
   verdict-short event = record {
-    id = let size = (id_text (signed_text_of event)).size in omega (arith, size);
-    text = first-short (first_fault_of event) (is_signed checks event) (is_one_of rooms (room_id_of event));
+    id = let size = (id_text (signed_text_of (read_as event))).size in omega (arith, size);
+    text = first-short (first_fault_of event) (is_signed checks (read_as event)) (is_one_of rooms (room_id_of (read_as event)));
   }
 
   verdicts-short : (verdicts : VerdictMap) (events : List Data) → AreShort (finite.entries verdicts)
@@ -163,7 +164,7 @@ module _ (checks : Checks) (rooms : List (List ℕ)) where
       × (length (finite.entries (with_verdicts checks rooms verdicts events)) ≤ length (finite.entries verdicts) + length events)
   verdicts-short verdicts [] short = (short, omega arith)
   verdicts-short verdicts (event ∷ events) short =
-      let id = event_id_of event in
+      let id = element_id event in
       let verdict = verdict_on checks rooms event in
       let put = put_more id verdict (finite.entries verdicts) (verdict-short event) short in
       let same = finite.entries-insert nat_list_cmp_total verdicts id verdict in
@@ -175,10 +176,10 @@ module _ (checks : Checks) (rooms : List (List ℕ)) where
 firsts-length : (known : List (List ℕ)) (elements : List Data) → length (firsts_but known elements) ≤ length elements
 firsts-length known [] = omega arith
 firsts-length known (element ∷ elements) =
-    by (is_some (as_object element) && not (is_one_of known (event_id_of element))) (firsts-length (event_id_of element ∷ known) elements) (firsts-length known elements)
+    by (is_some (as_object element) && not (is_one_of known (element_id element))) (firsts-length (element_id element ∷ known) elements) (firsts-length known elements)
   where
-    by : (b : Bool) → length (firsts_but (event_id_of element ∷ known) elements) ≤ length elements → length (firsts_but known elements) ≤ length elements
-        → length (cond b (element ∷ firsts_but (event_id_of element ∷ known) elements) (firsts_but known elements)) ≤ suc (length elements)
+    by : (b : Bool) → length (firsts_but (element_id element ∷ known) elements) ≤ length elements → length (firsts_but known elements) ≤ length elements
+        → length (cond b (element ∷ firsts_but (element_id element ∷ known) elements) (firsts_but known elements)) ≤ suc (length elements)
     by true taken left = omega (arith, taken)
     by false taken left = omega (arith, left)
 

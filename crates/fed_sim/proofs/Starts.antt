@@ -1,9 +1,10 @@
 -- Rooms that start, and rooms that do not.
-use Rattle.std.proofs.Common.{◌≡◌, ◌≢◌, ◌<◌, ℕ, List, [], length, map, string_bytes, String, Global, Some, None, Ok, Err, refl, sym, ap, subst, ◌∙◌}
+use Rattle.std.proofs.Common.{◌≡◌, ◌≢◌, ◌<◌, ℕ, List, [], length, map, string_bytes, String, Global, Some, None, Err, refl, sym, ap, subst, ◌∙◌}
 use Rattle.std.specs.List.Sorted.{IsPermutation}
 use Rattle.std.proofs.lemmas.List.{length-map}
 use Rattle.std.proofs.lemmas.Option.{slice_get_within}
 use Rattle.fed_dest.specs.ListParts.{AreInOrder}
+use Rattle.fed_redaction.specs.declared.version.Version.TheVariants.{V10}
 use Rattle.fed_sim.specs.declared.packet.Packet.{Packet}
 use Rattle.fed_sim.specs.declared.server.Server.{Server}
 use Rattle.fed_sim.specs.declared.setup.Setup.{Setup}
@@ -14,7 +15,6 @@ use Rattle.fed_sim.proofs.Built.{mapped}
 use Rattle.fed_sim.proofs.Packets.{sent_of}
 use Rattle.fed_sim.proofs.Worlds.{seen_of}
 use Rattle.std.specs.Prelude.{slice_get}
-use Rattle.fed_event.specs.Checked.{CheckedEvent}
 use Rattle.fed_room.specs.Creation.{started_of}
 use Rattle.fed_room.specs.Room.{room_rules}
 use Rattle.fed_room.specs.Start.{start_fault_of}
@@ -49,7 +49,7 @@ not_memory_start (start.NotAccepted place receipt) bad same = absurd (cc)
 
 -- a room of which no events are made
 pub none_made : (names : List (List ℕ)) (setups : List RoomSetup) (place : ℕ) (setup : RoomSetup) (fault : StartedFault) → slice_get setups place ≡ Some setup
-    → (fault ≢ started.Memory → started_of signer_named names (id_of setup) (users_of setup) ≡ Err fault) → sim_fault_of_started fault ≡ BadSetup → HasNoStart names setups
+    → (fault ≢ started.Memory → started_of signer_named names V10 (id_of setup) (users_of setup) ≡ Err fault) → sim_fault_of_started fault ≡ BadSetup → HasNoStart names setups
 none_made names setups place setup fault here fails bad = record {
   place = place;
   setup = setup;

@@ -4,7 +4,7 @@ use Rattle.std.specs.List.{slice_get}
 use Rattle.std.proofs.lemmas.Bool.{cases_eq}
 use Rattle.std.proofs.lemmas.Option.{none-some, same_Some, slice_get_within}
 use Rattle.std.proofs.lemmas.Slice.Eq.{bytes_eq-Decides}
-use Rattle.serde_json.specs.Data.{Data}
+use Rattle.fed_event.specs.Event.{Event, event_in}
 use Rattle.fed_event.specs.declared.fault.PduFault.{PduFault}
 use Rattle.fed_event.specs.Checked.{CheckedEvent, checked_of}
 use Rattle.fed_event.specs.Fields.{room_id_of}
@@ -120,17 +120,17 @@ made_is signer stored draft p made = of_own (is_own_user signer.name draft.sende
     of_verdict event (Rejected rule) is e = absurd (cc)
     of_verdict event (SoftFailed rule) is e = absurd (cc)
 
-    of_fault : (value : Data) (fault : Option PduFault) → if_event room_rules signer stored value fault ≡ Ok p → (room_rules.decide stored p.event ≡ Accepted) × (p.before ≡ room_rules.before stored p.event.event)
+    of_fault : (value : Event) (fault : Option PduFault) → if_event room_rules signer stored value fault ≡ Ok p → (room_rules.decide stored p.event ≡ Accepted) × (p.before ≡ room_rules.before stored p.event.event)
     of_fault value (Some fault) e = absurd (cc)
     of_fault value None e = of_verdict (checked_of signer.checks value) (room_rules.decide stored (checked_of signer.checks value)) refl e
 
     of_own : (b : Bool) → (if b then if_sealed room_rules signer stored (sealed_by signer (room_rules.parts stored draft)) else Err NotOwnUser) ≡ Ok p
         → (room_rules.decide stored p.event ≡ Accepted) × (p.before ≡ room_rules.before stored p.event.event)
-    of_own true e = of_fault (sealed_by signer (room_rules.parts stored draft)) (first_fault_of (sealed_by signer (room_rules.parts stored draft))) e
+    of_own true e = of_fault (sealed_by signer (room_rules.parts stored draft)) (first_fault_of (sealed_by signer (room_rules.parts stored draft)).value) e
     of_own false e = absurd (cc)
 
 -- it is one of the room that the draft names
-room_sealed : (signer : Signer) (links : EventLinks) (draft : DraftFields) (key : Option (List ℕ)) → room_id_of (sealed_by signer (with_state_key key (fields_of links draft))) ≡ draft.room
+room_sealed : (signer : Signer) (links : EventLinks) (draft : DraftFields) (key : Option (List ℕ)) → room_id_of (sealed_by signer (event_in links.version (with_state_key key (fields_of links draft)))) ≡ draft.room
 room_sealed signer links draft None = refl
 room_sealed signer links draft (Some key) = refl
 
@@ -144,14 +144,14 @@ made_for signer stored draft p made = of_own (is_own_user signer.name draft.send
     of_verdict event is (Rejected rule) e = absurd (cc)
     of_verdict event is (SoftFailed rule) e = absurd (cc)
 
-    of_fault : (value : Data) → room_id_of value ≡ draft.room → (fault : Option PduFault) → if_event room_rules signer stored value fault ≡ Ok p → room_id_of p.event.event ≡ draft.room
+    of_fault : (value : Event) → room_id_of value ≡ draft.room → (fault : Option PduFault) → if_event room_rules signer stored value fault ≡ Ok p → room_id_of p.event.event ≡ draft.room
     of_fault value is (Some fault) e = absurd (cc)
     of_fault value is None e = of_verdict (checked_of signer.checks value) (room_kept signer.checks value ∙ is) (room_rules.decide stored (checked_of signer.checks value)) e
 
     of_own : (b : Bool) → (if b then if_sealed room_rules signer stored (sealed_by signer (room_rules.parts stored draft)) else Err NotOwnUser) ≡ Ok p → room_id_of p.event.event ≡ draft.room
     of_own true e =
         of_fault (sealed_by signer (room_rules.parts stored draft)) (room_sealed signer (links_of stored draft) draft draft.state_key)
-        (first_fault_of (sealed_by signer (room_rules.parts stored draft))) e
+        (first_fault_of (sealed_by signer (room_rules.parts stored draft)).value) e
     of_own false e = absurd (cc)
 
 last_stored : (xs : List Stored) (x : Stored) → is_stored (xs ++ x ∷ []) (id_of x) ≡ true

@@ -36,7 +36,7 @@ use Rattle.fed_sim.specs.World.{request, answer, WorldState, with_server}
 
 -- the canonical texts of events, and of ephemeral data units
 abbrev pub event_texts : List CheckedEvent → List (List ℕ)
-event_texts events = map (λ (checked : CheckedEvent). canonical_text checked.event) events
+event_texts events = map (λ (checked : CheckedEvent). canonical_text checked.event.value) events
 
 abbrev pub edu_texts : List Data → List (List ℕ)
 edu_texts edus = map canonical_text edus

@@ -1,6 +1,7 @@
 -- What a world is after a list of steps.
 use Rattle.std.specs.Prelude.{◌≡◌, ℕ, false, List, [], Some, None, Ok, length, map, slice_get, string_bytes}
 use Rattle.std.specs.List.Sorted.{IsPermutation}
+use Rattle.fed_redaction.specs.declared.version.Version.TheVariants.{V10}
 use Rattle.fed_event.specs.Checked.{CheckedEvent}
 use Rattle.fed_room_contract.specs.Room.{empty_room}
 use Rattle.fed_room.specs.Creation.{started_of}
@@ -21,7 +22,7 @@ use Rattle.fed_sim.specs.World.{WorldState}
 
 -- a room starts with these events, which its users make at the servers of these names: each of them is accepted
 pub record StartsWith (names : List (List ℕ)) (setup : RoomSetup) (events : List CheckedEvent) : Type 0 where
-  pub made : started_of signer_named names (id_of setup) (users_of setup) ≡ Ok events
+  pub made : started_of signer_named names V10 (id_of setup) (users_of setup) ≡ Ok events
   pub accepted : start_fault_of room_rules events ≡ None
 
 -- a room as it begins at a server of this name: the events that it starts with are stored, and nothing waits in front of it

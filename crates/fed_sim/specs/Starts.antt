@@ -1,5 +1,6 @@
 -- The events that the rooms of a world begin with, and the rooms that begin with them.
 use Rattle.std.specs.Prelude.{◌≡◌, ℕ, List, [], Some, None, Ok, slice_get}
+use Rattle.fed_redaction.specs.declared.version.Version.TheVariants.{V10}
 use Rattle.fed_event.specs.Checked.{CheckedEvent}
 use Rattle.fed_room_contract.specs.Room.{empty_room}
 use Rattle.fed_room.specs.Creation.{started_of}
@@ -14,7 +15,7 @@ use Rattle.fed_sim.specs.Setup.{id_of, users_of}
 -- these are the events that the users of each room make at the servers of these names
 abbrev pub AreStarts : List (List ℕ) → List RoomSetup → List Start → Type 0
 AreStarts names setups starts =
-    (k : ℕ) (start : Start) → slice_get starts k ≡ Some start → (setup : RoomSetup) → slice_get setups k ≡ Some setup → started_of signer_named names (id_of setup) (users_of setup) ≡ Ok start.events.items
+    (k : ℕ) (start : Start) → slice_get starts k ≡ Some start → (setup : RoomSetup) → slice_get setups k ≡ Some setup → started_of signer_named names V10 (id_of setup) (users_of setup) ≡ Ok start.events.items
 
 -- a room at a server of this name begins with these events: each is accepted and stored, and nothing waits in front of it
 pub record IsBegunWith (own : List ℕ) (events : List CheckedEvent) (h : HostedState) : Type 0 where

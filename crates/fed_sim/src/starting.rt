@@ -6,7 +6,7 @@ ghost use Rattle.fed_sim.specs.Starts.{AreStarts, AreBegun, IsNotAccepted};
 
 use crate::hosted::Hosted;
 use crate::setup::{RoomSetup, SimFault};
-use fed_event::{Checked, StandIn};
+use fed_event::{Checked, StandIn, Version};
 use fed_json::NoMemory;
 use fed_room::{Room, started};
 use std::alloc::Global;
@@ -29,7 +29,7 @@ pub(crate) fn starts(
 {
     let mut starts = Vec::with_capacity(alloc, rooms.len())?;
     for room in rooms {
-        let events = started(alloc, &room.id, &room.users, keys)?;
+        let events = started(alloc, Version::V10, &room.id, &room.users, keys)?;
         starts.push(Start { events })?;
     }
     Ok(starts)

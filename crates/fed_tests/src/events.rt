@@ -1,5 +1,5 @@
 // Ids and faults as texts.
-use fed_event::{CheckFault, PduFault, event_id};
+use fed_event::{CheckFault, PduFault, Version, event_id};
 use fed_json::{Json, JsonFault, read};
 use fed_room_contract::Refusal;
 use std::alloc::Global;
@@ -12,7 +12,7 @@ fn json(alloc: Global, text: &[u8]) -> Result<Json, Fail> {
 
 #[test]
 fn ids(rt: HostRuntime) -> Result<(), Fail> {
-    let id = event_id(rt.alloc(), &json(rt.alloc(), b"{}")?)?;
+    let id = event_id(rt.alloc(), Version::V10, &json(rt.alloc(), b"{}")?)?;
     assert_eq!(rt;
         format!(in rt.alloc(); "{id} {id:?}")?.as_str(),
         "$RBNvo1WzZ4oRRq0W9-hknpT7T8If536DEMBg9hyq_4o \"$RBNvo1WzZ4oRRq0W9-hknpT7T8If536DEMBg9hyq_4o\""

@@ -1,6 +1,6 @@
 // Calls on events: their tests, their fields, the checks on receipt, and sealing.
 
-use crate::key_ring::KeyRing;
+use crate::key_ring::{KeyRing, room_version};
 use fed_event::{CheckFault, Checked, EventId, EventIds, Keys, Pdu, PduFault, is_sent_by};
 use fed_json::Json;
 use fed_vectors_call::{Answer, Arguments, List, Object, Stop, copy, number, text, truth};
@@ -69,9 +69,10 @@ fn named(alloc: Global, ids: EventIds<'_>) -> Answer {
 
 // The event of `value`, `text` or `hex`.
 fn event_given(call: Arguments<'_>) -> Result<Pdu, Stop> {
+    let version = room_version(call)?;
     let read = match call.find("value") {
-        Some(value) => Pdu::of_json(call.alloc, value.to_json()?),
-        None => Pdu::read(call.alloc, &call.bytes()?),
+        Some(value) => Pdu::of_json(call.alloc, version, value.to_json()?),
+        None => Pdu::read(call.alloc, version, &call.bytes()?),
     };
     match read {
         Ok(event) => Ok(event),
@@ -94,7 +95,7 @@ fn told_of(alloc: Global, checked: &Checked) -> Answer {
 
 /// The event that a value is, after the checks on receipt. The error is the verdict on it.
 pub fn checked_in(alloc: Global, keys: &KeyRing, value: Json) -> Result<Checked, Stop> {
-    let event = match Pdu::of_json(alloc, value) {
+    let event = match Pdu::of_json(alloc, keys.version(), value) {
         Ok(event) => event,
         Err(fault) => return Err(failing(alloc, fault)),
     };
@@ -116,7 +117,7 @@ pub fn sealed(alloc: Global, keys: &KeyRing, parts: Json) -> Result<Checked, Sto
     if !is_sent_by(keys.own(), &parts) {
         return Err(Stop::wrong(String::from_str(alloc, "sender of another server")));
     }
-    match fed_event::seal(alloc, parts, keys) {
+    match fed_event::seal(alloc, keys.version(), parts, keys) {
         Ok(sealed) => Ok(sealed),
         Err(fault) => Err(failing(alloc, fault)),
     }

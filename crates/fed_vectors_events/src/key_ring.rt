@@ -1,15 +1,22 @@
-// The keys that a call names.
+// The keys that a call names, and the room version by which it reads events.
 ghost use Rattle.std.specs.Prelude.{◌≡◌, IfOk, IfSome};
 ghost use Rattle.fed_keys.specs.StandIn.{stand_in_key};
+ghost use Rattle.fed_vectors_events.specs.KeyRing.{ring_name};
 
-use fed_event::{Keys, StandIn, Trusting};
+use fed_event::{Keys, StandIn, Trusting, Version};
 use fed_json::NoMemory;
 use fed_vectors_call::{Arguments, Stop};
 use std::alloc::Global;
 
-/// The keys that a call names.
+/// The keys that a call names, and the room version by which it reads events.
 #[derive(Drop)]
-pub enum KeyRing {
+pub struct KeyRing {
+    version: Version,
+    ring: Ring,
+}
+
+#[derive(Drop)]
+enum Ring {
     /// Signatures that anyone can make.
     StandIn(StandIn),
     /// Keys under which every signature checks.
@@ -23,8 +30,9 @@ impl KeyRing {
     pub fn of(call: Arguments<'_>, own: &str) -> Result<KeyRing, Stop>
         ensures { IfOk result (λ keys. name_of keys ≡ own.now) }
     {
-        match KeyRing::named(call.alloc, call.text("keys")?, own)? {
-            Some(keys) => Ok(keys),
+        let version = room_version(call)?;
+        match named(call.alloc, call.text("keys")?, own)? {
+            Some(ring) => Ok(KeyRing { version, ring }),
             None => Err(call.wrong_kind("keys")),
         }
     }
@@ -36,21 +44,39 @@ impl KeyRing {
         if call.find("keys").is_some() {
             return KeyRing::of(call, own);
         }
+        let version = room_version(call)?;
         let own = String::from_str(call.alloc, own)?;
-        Ok(KeyRing::StandIn(StandIn::new(own)))
+        let ring = Ring::StandIn(StandIn::new(own));
+        Ok(KeyRing { version, ring })
     }
 
-    // The keys of this name, of this server, where there are such keys.
-    fn named(alloc: Global, name: &str, own: &str) -> Result<Option<KeyRing>, NoMemory>
-        ensures { IfOk result (λ named. IfSome named (λ keys. name_of keys ≡ own.now)) }
-    {
-        let own = String::from_str(alloc, own)?;
-        Ok(match name {
-            "standin" => Some(KeyRing::StandIn(StandIn::new(own))),
-            "trusting" => Some(KeyRing::Trusting(Trusting::new(own))),
-            _ => None,
-        })
+    /// The room version by which the call reads events.
+    pub fn version(&self) -> Version {
+        self.version
     }
+}
+
+/// The room version that a call names, 10 where it names none.
+pub fn room_version(call: Arguments<'_>) -> Result<Version, Stop> {
+    if call.find("room_version").is_none() {
+        return Ok(Version::V10);
+    }
+    match Version::read(call.text("room_version")?) {
+        Some(version) => Ok(version),
+        None => Err(call.wrong_kind("room_version")),
+    }
+}
+
+// The keys of this name, of this server, where there are such keys.
+fn named(alloc: Global, name: &str, own: &str) -> Result<Option<Ring>, NoMemory>
+    ensures { IfOk result (λ named. IfSome named (λ ring. ring_name ring ≡ own.now)) }
+{
+    let own = String::from_str(alloc, own)?;
+    Ok(match name {
+        "standin" => Some(Ring::StandIn(StandIn::new(own))),
+        "trusting" => Some(Ring::Trusting(Trusting::new(own))),
+        _ => None,
+    })
 }
 
 impl Keys for KeyRing {
@@ -67,30 +93,30 @@ impl Keys for KeyRing {
     ghost signs = { signed-checks };
 
     fn own(&self) -> &str {
-        match self {
-            KeyRing::StandIn(keys) => keys.own(),
-            KeyRing::Trusting(keys) => keys.own(),
+        match &self.ring {
+            Ring::StandIn(keys) => keys.own(),
+            Ring::Trusting(keys) => keys.own(),
         }
     }
 
     fn key_name(&self) -> &str {
-        match self {
-            KeyRing::StandIn(keys) => keys.key_name(),
-            KeyRing::Trusting(keys) => keys.key_name(),
+        match &self.ring {
+            Ring::StandIn(keys) => keys.key_name(),
+            Ring::Trusting(keys) => keys.key_name(),
         }
     }
 
     fn sign(&self, bytes: &[u8]) -> [u8; 64] {
-        match self {
-            KeyRing::StandIn(keys) => keys.sign(bytes),
-            KeyRing::Trusting(keys) => keys.sign(bytes),
+        match &self.ring {
+            Ring::StandIn(keys) => keys.sign(bytes),
+            Ring::Trusting(keys) => keys.sign(bytes),
         }
     }
 
     fn check(&self, server: &str, key: &str, bytes: &[u8], signature: &[u8; 64]) -> bool {
-        match self {
-            KeyRing::StandIn(keys) => keys.check(server, key, bytes, signature),
-            KeyRing::Trusting(keys) => keys.check(server, key, bytes, signature),
+        match &self.ring {
+            Ring::StandIn(keys) => keys.check(server, key, bytes, signature),
+            Ring::Trusting(keys) => keys.check(server, key, bytes, signature),
         }
     }
 }

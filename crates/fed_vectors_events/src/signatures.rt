@@ -29,7 +29,7 @@ pub fn signature(call: Arguments<'_>) -> Answer {
 pub fn is_signed_by(call: Arguments<'_>) -> Answer {
     let keys = KeyRing::of(call, "")?;
     let event = call.value("value")?;
-    let signed = signed_text(call.alloc, &event)?;
+    let signed = signed_text(call.alloc, keys.version(), &event)?;
     let is_signed = fed_event::is_signed_by(&keys, call.text("server")?, &event, &signed);
     truth(call.alloc, is_signed)
 }

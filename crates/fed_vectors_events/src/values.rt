@@ -1,5 +1,6 @@
 // Calls on values: their canonical text, what redaction leaves of them, their hashes.
 
+use crate::key_ring::room_version;
 use fed_event::Texts;
 use fed_json::{Json, MAX_LEVELS, read_within};
 use fed_vectors_call::{Answer, Arguments, Object, Stop, text, text_of_bytes};
@@ -19,16 +20,19 @@ pub fn canonical(call: Arguments<'_>) -> Answer {
 }
 
 pub fn redact(call: Arguments<'_>) -> Answer {
-    Ok(fed_event::redact(call.alloc, &call.value("value")?)?)
+    let version = room_version(call)?;
+    Ok(fed_event::redact(call.alloc, version, &call.value("value")?)?)
 }
 
 pub fn signed_text(call: Arguments<'_>) -> Answer {
-    let signed = fed_event::signed_text(call.alloc, &call.value("value")?)?;
+    let version = room_version(call)?;
+    let signed = fed_event::signed_text(call.alloc, version, &call.value("value")?)?;
     text_of_bytes(call.alloc, &signed)
 }
 
 pub fn event_id(call: Arguments<'_>) -> Answer {
-    let id = fed_event::event_id(call.alloc, &call.value("value")?)?;
+    let version = room_version(call)?;
+    let id = fed_event::event_id(call.alloc, version, &call.value("value")?)?;
     text(call.alloc, id.as_str())
 }
 
@@ -38,7 +42,8 @@ pub fn content_hash(call: Arguments<'_>) -> Answer {
 }
 
 pub fn texts(call: Arguments<'_>) -> Answer {
-    let texts = Texts::of(call.alloc, &call.value("value")?)?;
+    let version = room_version(call)?;
+    let texts = Texts::of(call.alloc, version, &call.value("value")?)?;
     Object::new(call.alloc)
         .with("covered", text_of_bytes(call.alloc, texts.covered()))
         .with("signed", text_of_bytes(call.alloc, texts.signed()))

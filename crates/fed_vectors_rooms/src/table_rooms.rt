@@ -6,7 +6,7 @@ use fed_json::{Items, JsonRef};
 use fed_room::{Table, TableRoom};
 use fed_room_contract::State;
 use fed_vectors_call::{Answer, Arguments, Stop};
-use fed_vectors_events::KeyRing;
+use fed_vectors_events::{KeyRing, room_version};
 use fed_vectors_graphs::verdict_in;
 use std::alloc::Global;
 
@@ -41,7 +41,7 @@ fn state(call: Arguments<'_>, name: &str) -> Result<State, Stop> {
         let Some((kind, state_key, value)) = item.items().and_then(entry_in) else {
             return Err(call.wrong_kind(name));
         };
-        let id = event_id(call.alloc, &value.to_json()?)?;
+        let id = event_id(call.alloc, room_version(call)?, &value.to_json()?)?;
         state.insert(call.alloc, kind, state_key, id)?;
     }
     Ok(state.copy(call.alloc)?)
