@@ -13,12 +13,17 @@ static uint32_t canonical(const uint8_t *text, size_t text_len, uint8_t *out, si
     return wikzord_canonical(text, text_len, 100, out, out_len, needed);
 }
 
+static uint32_t event_id(const uint8_t *text, size_t text_len, uint8_t *out, size_t out_len, size_t *needed)
+{
+    return wikzord_event_id(10, text, text_len, out, out_len, needed);
+}
+
 static call *call_of(const char *name)
 {
     if (!strcmp(name, "canonical"))
         return canonical;
     if (!strcmp(name, "eventid"))
-        return wikzord_event_id;
+        return event_id;
     if (!strcmp(name, "content_hash"))
         return wikzord_content_hash;
     return NULL;

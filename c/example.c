@@ -1,4 +1,4 @@
-/* Prints the id of the event that standard input has, and what the tests of an event say of it. */
+/* Prints the id of the event of a room of version 10 that standard input has, and what the tests of an event say of it. */
 #include "wikzord.h"
 
 #include <stdio.h>
@@ -60,7 +60,7 @@ int main(void)
     }
     uint8_t id[44];
     size_t needed;
-    uint32_t status = wikzord_event_id(text, len, id, sizeof id, &needed);
+    uint32_t status = wikzord_event_id(10, text, len, id, sizeof id, &needed);
     int failed = 0;
     if (status == WIKZORD_DONE)
         printf("%.*s\n", (int)needed, (const char *)id);

@@ -22,6 +22,11 @@
  * Lists. A list comes as the JSON text of an array, and is given as one; wikzord_event_ids and wikzord_content_hashes have a form of their own.
  * A value that is no such list is refused, never taken for an empty one.
  *
+ * Versions. What redaction leaves of an event, and with it what is signed of it, its id and what its room allows, depends on the version of the room
+ * (Matrix, "Room versions"). A function whose answer does takes its number first, as `version`: 10 or 11, which the create event of the room names as
+ * a text at `content.room_version`; nothing is read there. Any other number is refused as WIKZORD_BAD_VERSION, before anything else is looked at.
+ * What a function answers that takes no version is the same in both.
+ *
  * Memory. A function takes memory by malloc, and gives all of it back by free before it returns. Nothing is kept between calls, and there is
  * no state: calls may run in any number of threads at once. None may be made from a signal handler, or in the child of a fork of a process
  * with several threads.
@@ -42,7 +47,7 @@ extern "C" {
  * so that a program for the number before would not expect it. wikzord_version, which returns no status, tells the number of the library that a
  * program has loaded: where it is another one than the program was compiled with, make no other call.
  */
-#define WIKZORD_VERSION 2
+#define WIKZORD_VERSION 3
 
 uint32_t wikzord_version(void);
 
@@ -73,7 +78,8 @@ enum wikzord_status {
     WIKZORD_BAD_STATE = 22,       /* no array of the ids of state events of the room, or of such arrays; or two events at one type and state key */
     WIKZORD_BAD_SERVERS = 23,     /* the value is no array of the names of servers */
     WIKZORD_BAD_IDS = 24,         /* the value is no array of texts, which are the ids of events */
-    WIKZORD_MISSING_EVENTS = 25   /* an event names an auth event that is not among those that are given */
+    WIKZORD_MISSING_EVENTS = 25,  /* an event names an auth event that is not among those that are given */
+    WIKZORD_BAD_VERSION = 26      /* the version of the room is neither 10 nor 11 */
 };
 
 /* A field of an event; WIKZORD_FIELD_EVENT stands for the event itself. */
@@ -112,25 +118,26 @@ enum wikzord_part {
 uint32_t wikzord_canonical(const uint8_t *text, size_t text_len, size_t levels, uint8_t *out, size_t out_len, size_t *needed);
 
 /*
- * The canonical text of what redaction leaves of an event (room version 10, "Redactions").
+ * The canonical text of what redaction leaves of an event in a room of this version (room versions 10 and 11, "Redactions").
  *
- * WIKZORD_NOT_JSON, or WIKZORD_NOT_CANONICAL.
+ * WIKZORD_BAD_VERSION; then WIKZORD_NOT_JSON, or WIKZORD_NOT_CANONICAL.
  */
-uint32_t wikzord_redaction(const uint8_t *text, size_t text_len, uint8_t *out, size_t out_len, size_t *needed);
+uint32_t wikzord_redaction(uint32_t version, const uint8_t *text, size_t text_len, uint8_t *out, size_t out_len, size_t *needed);
 
 /*
- * The bytes of an event that its servers sign (Server-Server API, "Signing Events"). Sign and check them with Ed25519 of your own.
+ * The bytes of an event that its servers sign in a room of this version (Server-Server API, "Signing Events"). Sign and check them with Ed25519 of
+ * your own.
  *
- * WIKZORD_NOT_JSON, or WIKZORD_NOT_CANONICAL.
+ * WIKZORD_BAD_VERSION; then WIKZORD_NOT_JSON, or WIKZORD_NOT_CANONICAL.
  */
-uint32_t wikzord_signed_text(const uint8_t *text, size_t text_len, uint8_t *out, size_t out_len, size_t *needed);
+uint32_t wikzord_signed_text(uint32_t version, const uint8_t *text, size_t text_len, uint8_t *out, size_t out_len, size_t *needed);
 
 /*
- * The id of an event (room version 4, "Event IDs"): always 44 bytes.
+ * The id of an event in a room of this version (room version 4, "Event IDs"): always 44 bytes.
  *
- * WIKZORD_NOT_JSON, or WIKZORD_NOT_CANONICAL.
+ * WIKZORD_BAD_VERSION; then WIKZORD_NOT_JSON, or WIKZORD_NOT_CANONICAL.
  */
-uint32_t wikzord_event_id(const uint8_t *text, size_t text_len, uint8_t *out, size_t out_len, size_t *needed);
+uint32_t wikzord_event_id(uint32_t version, const uint8_t *text, size_t text_len, uint8_t *out, size_t out_len, size_t *needed);
 
 /*
  * The content hash of an event (Server-Server API, "Calculating the content hash for an event"): always 43 bytes of unpadded base64.
@@ -140,12 +147,14 @@ uint32_t wikzord_event_id(const uint8_t *text, size_t text_len, uint8_t *out, si
 uint32_t wikzord_content_hash(const uint8_t *text, size_t text_len, uint8_t *out, size_t out_len, size_t *needed);
 
 /*
- * The ids and the content hashes of several events, one behind another: 44 and 43 bytes each. The events stand one behind another in `texts`, and
- * `lens` has the length of each, of which there are `count`. A length past the end of `texts` stands for what is left there.
+ * The ids, in a room of this version, and the content hashes of several events, one behind another: 44 and 43 bytes each. The events stand one behind
+ * another in `texts`, and `lens` has the length of each, of which there are `count`. A length past the end of `texts` stands for what is left there.
  *
- * WIKZORD_NOT_JSON, or WIKZORD_NOT_CANONICAL, of the first event that has no answer; the calls for one event tell which it is.
+ * WIKZORD_BAD_VERSION where a version is asked for; then WIKZORD_NOT_JSON, or WIKZORD_NOT_CANONICAL, of the first event that has no answer; the calls
+ * for one event tell which it is.
  */
-uint32_t wikzord_event_ids(const uint8_t *texts, size_t texts_len, const size_t *lens, size_t count, uint8_t *out, size_t out_len, size_t *needed);
+uint32_t wikzord_event_ids(uint32_t version, const uint8_t *texts, size_t texts_len, const size_t *lens, size_t count, uint8_t *out, size_t out_len,
+                           size_t *needed);
 
 uint32_t wikzord_content_hashes(const uint8_t *texts, size_t texts_len, const size_t *lens, size_t count, uint8_t *out, size_t out_len,
                                 size_t *needed);
@@ -175,7 +184,7 @@ uint32_t wikzord_event_error(const uint8_t *text, size_t text_len, uint8_t *out,
 /*
  * At which types and state keys of a state the auth events of an event stand (Server-Server API, "Auth events selection"): the canonical text
  * of an array of arrays, each of a type and a state key, such as `[["m.room.create",""],["m.room.member","@u:a.example"]]`. Where a state has
- * nothing at one of them, there is no auth event for it; a key may stand there twice.
+ * nothing at one of them, there is no auth event for it; a key may stand there twice. They are the same in every version of rooms.
  *
  * The status of the first test that the event fails, as wikzord_event_test tells it.
  */
@@ -255,40 +264,42 @@ uint32_t wikzord_reply(const uint8_t *verdicts, size_t verdicts_len, uint8_t *ou
  */
 
 /*
- * Whether a room allows an event (room version 10, "Authorization rules"), by the state before it, or any other: no bytes where it does, so
- * that `*needed` is 0; else three bytes, the numbers of the rule that rejects it, of the rule's condition and of the condition's branch, each
- * 0 where there is none: 4, 3 and 7 for rule 4.3.7. Rule 2, on the auth events that the event names, is not looked at: that does
+ * Whether a room of this version allows an event (room versions 10 and 11, "Authorization rules"), by the state before it, or any other: no bytes
+ * where it does, so that `*needed` is 0; else three bytes, the numbers of the rule that rejects it, of the rule's condition and of the condition's
+ * branch, each 0 where there is none: 4, 3 and 7 for rule 4.3.7. Rule 2, on the auth events that the event names, is not looked at: that does
  * wikzord_allowed_by_auth_events. But by 2.4 a state without a create event rejects all but a create event. `authorised` tells whether the signatures
  * of other servers than the sender's have checked, which the rules ask of the server of `join_authorised_via_users_server`.
  *
  * Of the events of `state` those are enough that wikzord_auth_selection names, and the create event among them is taken for the first event of the
  * room.
  *
- * What is so of `state`; then the status of the first test that the event fails, as wikzord_event_test tells it; then WIKZORD_NOT_SIGNED.
+ * WIKZORD_BAD_VERSION; then what is so of `state`; then the status of the first test that the event fails, as wikzord_event_test tells it; then
+ * WIKZORD_NOT_SIGNED.
  */
-uint32_t wikzord_allowed(const uint8_t *text, size_t text_len, const uint8_t *state, size_t state_len, bool authorised,
+uint32_t wikzord_allowed(uint32_t version, const uint8_t *text, size_t text_len, const uint8_t *state, size_t state_len, bool authorised,
                          uint8_t *out, size_t out_len, size_t *needed);
 
 /*
- * Whether an event is allowed by the auth events that it names (room version 10, "Authorization rules"; Server-Server API, "Checks performed on
- * receipt of a PDU", check 4): rule 2, and then the others by the state that these make. The answer, and `authorised`, are as in wikzord_allowed.
+ * Whether an event is allowed by the auth events that it names in a room of this version (room versions 10 and 11, "Authorization rules";
+ * Server-Server API, "Checks performed on receipt of a PDU", check 4): rule 2, and then the others by the state that these make. The answer, and
+ * `authorised`, are as in wikzord_allowed.
  *
  * `auth_events` is an array of events, in any order, among which all are that the event names: others count for nothing. Each passes the tests of
  * wikzord_event_test and has a signature of its sender's server. `rejected` is an array of the ids of events that were rejected, by their auth
  * events or by the state before them (rule 2.3); an id of none of `auth_events` counts for nothing.
  *
- * WIKZORD_NOT_JSON or WIKZORD_NOT_CANONICAL where `rejected` is no JSON text of whole numbers, WIKZORD_BAD_IDS where it is no such array; then
- * WIKZORD_NOT_JSON, WIKZORD_NOT_CANONICAL or WIKZORD_BAD_EVENTS where `auth_events` is none; then the status of the first test that the event
- * fails, as wikzord_event_test tells it; then WIKZORD_NOT_SIGNED; then WIKZORD_MISSING_EVENTS.
+ * WIKZORD_BAD_VERSION; then WIKZORD_NOT_JSON or WIKZORD_NOT_CANONICAL where `rejected` is no JSON text of whole numbers, WIKZORD_BAD_IDS where it is
+ * no such array; then WIKZORD_NOT_JSON, WIKZORD_NOT_CANONICAL or WIKZORD_BAD_EVENTS where `auth_events` is none; then the status of the first test
+ * that the event fails, as wikzord_event_test tells it; then WIKZORD_NOT_SIGNED; then WIKZORD_MISSING_EVENTS.
  */
-uint32_t wikzord_allowed_by_auth_events(const uint8_t *text, size_t text_len, const uint8_t *auth_events, size_t auth_events_len,
+uint32_t wikzord_allowed_by_auth_events(uint32_t version, const uint8_t *text, size_t text_len, const uint8_t *auth_events, size_t auth_events_len,
                                         const uint8_t *rejected, size_t rejected_len, bool authorised,
                                         uint8_t *out, size_t out_len, size_t *needed);
 
 /*
- * The servers that an event goes to (Server-Server API, "PDUs"), by the state before it: the canonical text of an array of those of `servers`,
- * in their order, that have a user who is joined, without `own`, which is the name of the own server. `servers` is an array of names. Of the
- * events of `state` the member events are enough. It takes time for each event of the state and each server.
+ * The servers that an event goes to (Server-Server API, "PDUs"), by the state before it: the canonical text of an array of those of `servers`, in
+ * their order, that have a user who is joined, without `own`, which is the name of the own server. `servers` is an array of names. Of the events of
+ * `state` the member events are enough. It is the same in every version of rooms. It takes time for each event of the state and each server.
  *
  * WIKZORD_NOT_JSON or WIKZORD_NOT_CANONICAL where `servers` is no JSON text of whole numbers, WIKZORD_BAD_SERVERS where it is no such array; then
  * what is so of `state`.
@@ -297,19 +308,19 @@ uint32_t wikzord_destinations(const uint8_t *state, size_t state_len, const uint
                               const uint8_t *own, size_t own_len, uint8_t *out, size_t out_len, size_t *needed);
 
 /*
- * The state that several states of a room resolve to (room version 2, "State resolution"): the canonical text of an array of the ids of its
- * events, in the order of their types and, within a type, of their state keys.
+ * The state that several states of a room of this version resolve to (room version 2, "State resolution"): the canonical text of an array of the ids
+ * of its events, in the order of their types and, within a type, of their state keys.
  *
  * `events` is an array of events of the room, each behind the ones that it names as auth events, and none of them twice: those of the states and of
  * their auth chains are enough. Prev events need not stand there. `rejected` is an array of the ids of the events that were rejected, by their auth
  * events or by the state before them; an id of none of `events` counts for nothing. `states` is an array of states, each an array of ids: each of a
  * state event of `events`, and no two of events at one type and state key.
  *
- * WIKZORD_NOT_JSON or WIKZORD_NOT_CANONICAL where `rejected` is no JSON text of whole numbers, WIKZORD_BAD_IDS where it is no such array; then
- * WIKZORD_NOT_JSON, WIKZORD_NOT_CANONICAL or WIKZORD_BAD_EVENTS where `events` is none; then WIKZORD_NOT_JSON, WIKZORD_NOT_CANONICAL or
- * WIKZORD_BAD_STATE where `states` is no array of states.
+ * WIKZORD_BAD_VERSION; then WIKZORD_NOT_JSON or WIKZORD_NOT_CANONICAL where `rejected` is no JSON text of whole numbers, WIKZORD_BAD_IDS where it is
+ * no such array; then WIKZORD_NOT_JSON, WIKZORD_NOT_CANONICAL or WIKZORD_BAD_EVENTS where `events` is none; then WIKZORD_NOT_JSON,
+ * WIKZORD_NOT_CANONICAL or WIKZORD_BAD_STATE where `states` is no array of states.
  */
-uint32_t wikzord_resolve(const uint8_t *events, size_t events_len, const uint8_t *rejected, size_t rejected_len,
+uint32_t wikzord_resolve(uint32_t version, const uint8_t *events, size_t events_len, const uint8_t *rejected, size_t rejected_len,
                          const uint8_t *states, size_t states_len, uint8_t *out, size_t out_len, size_t *needed);
 
 #ifdef __cplusplus

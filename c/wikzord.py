@@ -5,11 +5,15 @@ WIKZORD_LIBRARY names. A JSON value is given as its text, bytes or a str, or as 
 or as a str, which is encoded in UTF-8. What a call refuses raises `Refused`, with the first fault in the order in which it names them, also where a
 str has a lone surrogate and so no UTF-8; memory that runs out raises `MemoryError`, and an argument that is no text and no value `TypeError`. Calls
 may run in any number of threads, and several at once: ctypes lets others run meanwhile.
+
+A call whose answer depends on the version of the room takes its number by name, as `version=11`; without it the room is of version 10. Of another
+version than 10 and 11 each of them is refused, BAD_VERSION, before its other arguments are looked at.
 """
 import collections.abc
 import ctypes
 import enum
 import json
+import operator
 import os
 import pathlib
 import threading
@@ -23,7 +27,7 @@ __all__ = [
 ]
 
 # The number of the interface that this module is for: `WIKZORD_VERSION` of wikzord.h.
-VERSION = 2
+VERSION = 3
 
 
 class Status(enum.IntEnum):
@@ -55,6 +59,7 @@ class Status(enum.IntEnum):
     BAD_SERVERS = 23
     BAD_IDS = 24
     MISSING_EVENTS = 25
+    BAD_VERSION = 26
 
 
 class Field(enum.IntEnum):
@@ -190,6 +195,14 @@ _truth = ctypes.c_bool.from_param
 # The lengths of most texts, and the levels of all.
 _NUMBERS = [_number(number) for number in range(4_096)]
 
+_VERSIONS = {number: ctypes.c_uint32.from_param(number) for number in (10, 11)}
+
+
+def _room(version):
+    """The number of a room's version as a parameter; for one past 32 bits 0, which is refused as well."""
+    number = operator.index(version)
+    return _VERSIONS.get(number) or ctypes.c_uint32.from_param(number if 0 <= number < 2**32 else 0)
+
 
 class _Output:
     """A buffer, where a call tells the length of its answer, and both as the parameters of calls, made once."""
@@ -259,27 +272,27 @@ def _answer(function, *arguments):
     return buffer[: needed.value]
 
 
-def _text_answer(function, text):
-    """The bytes that a call makes of one text."""
+def _text_answer(function, text, *room):
+    """The bytes that a call makes of one text, in a room of the version that is given, where one is."""
     if type(text) is not bytes:
         text = _bytes(text)
     length = len(text)
     length = _NUMBERS[length] if length < 4_096 else _number(length)
     buffer, needed, out, size, told = _outputs.parts
-    status = function(text, length, out, size, told)
+    status = function(*room, text, length, out, size, told)
     if status:
-        return _long_answer(status, function, (text, length), needed.value)
+        return _long_answer(status, function, (*room, text, length), needed.value)
     return buffer[: needed.value]
 
 
-def _answers(function, texts, size):
-    """What calls make of texts, so many bytes of each, as texts."""
+def _answers(function, texts, size, *room):
+    """What calls make of texts, so many bytes of each, as texts; in a room of the version that is given, where one is."""
     texts = [text if type(text) is bytes else _bytes(text) for text in _items(texts)]
     answers = []
-    for start in range(0, len(texts), 128):
+    for start in range(0, len(texts) or 1, 128):
         some = texts[start : start + 128]
         whole, lengths = b"".join(some), (ctypes.c_size_t * len(some))(*map(len, some))
-        answer = _answer(function, whole, _number(len(whole)), lengths, _number(len(some))).decode()
+        answer = _answer(function, *room, whole, _number(len(whole)), lengths, _number(len(some))).decode()
         answers += [answer[at : at + size] for at in range(0, len(answer), size)]
     return answers
 
@@ -303,19 +316,19 @@ def canonical(value: Value, levels: int = 127) -> bytes:
     return _answer(_canonical, text, _number(len(text)), _NUMBERS[levels if levels < 127 else 127])
 
 
-def redaction(event: Value) -> bytes:
-    """The canonical text of what redaction leaves of an event. Refused: NOT_JSON, NOT_CANONICAL."""
-    return _text_answer(_redaction, event)
+def redaction(event: Value, *, version: int = 10) -> bytes:
+    """The canonical text of what redaction leaves of an event. Refused: BAD_VERSION, NOT_JSON, NOT_CANONICAL."""
+    return _text_answer(_redaction, event, _room(version))
 
 
-def signed_text(event: Value) -> bytes:
-    """The bytes of an event that its servers sign. Refused: NOT_JSON, NOT_CANONICAL."""
-    return _text_answer(_signed_text, event)
+def signed_text(event: Value, *, version: int = 10) -> bytes:
+    """The bytes of an event that its servers sign. Refused: BAD_VERSION, NOT_JSON, NOT_CANONICAL."""
+    return _text_answer(_signed_text, event, _room(version))
 
 
-def event_id(event: Value) -> str:
-    """The id of an event. Refused: NOT_JSON, NOT_CANONICAL."""
-    return _text_answer(_event_id, event).decode()
+def event_id(event: Value, *, version: int = 10) -> str:
+    """The id of an event. Refused: BAD_VERSION, NOT_JSON, NOT_CANONICAL."""
+    return _text_answer(_event_id, event, _room(version)).decode()
 
 
 def content_hash(event: Value) -> str:
@@ -323,9 +336,9 @@ def content_hash(event: Value) -> str:
     return _text_answer(_content_hash, event).decode()
 
 
-def event_ids(events: typing.Iterable[Value]) -> typing.List[str]:
+def event_ids(events: typing.Iterable[Value], *, version: int = 10) -> typing.List[str]:
     """The ids of events, of many by each call. Refused: as `event_id` refuses the first that has none."""
-    return _answers(_event_ids, events, 44)
+    return _answers(_event_ids, events, 44, _room(version))
 
 
 def content_hashes(events: typing.Iterable[Value]) -> typing.List[str]:
@@ -399,26 +412,27 @@ def reply(verdicts: typing.Mapping[str, typing.Optional[str]]) -> bytes:
     return _text_answer(_reply, {event_id: error or "" for event_id, error in verdicts.items()})
 
 
-def allowed(event: Value, state: typing.Iterable[Value], authorised: bool = False) -> typing.Optional[Rule]:
+def allowed(event: Value, state: typing.Iterable[Value], authorised: bool = False, *, version: int = 10) -> typing.Optional[Rule]:
     """The authorization rule that rejects an event by a state of its room, and None where the room allows it.
 
     `state` has the events of the state, of which those at the keys of `auth_selection` are enough. `authorised` tells whether the signatures of
-    other servers than the sender's have checked. Refused: of the state NOT_JSON, NOT_CANONICAL, BAD_EVENTS, BAD_STATE; then as the event's test
-    fails, NOT_SIGNED.
+    other servers than the sender's have checked. Refused: BAD_VERSION; of the state NOT_JSON, NOT_CANONICAL, BAD_EVENTS, BAD_STATE; then as the
+    event's test fails, NOT_SIGNED.
     """
-    return _rule(_answer(_allowed, *_slices(event, _array(state)), _truth(authorised)))
+    return _rule(_answer(_allowed, _room(version), *_slices(event, _array(state)), _truth(authorised)))
 
 
 def allowed_by_auth_events(
-    event: Value, auth_events: typing.Iterable[Value], rejected: typing.Iterable[str] = (), authorised: bool = False
+    event: Value, auth_events: typing.Iterable[Value], rejected: typing.Iterable[str] = (), authorised: bool = False, *, version: int = 10
 ) -> typing.Optional[Rule]:
     """The authorization rule that rejects an event by the auth events that it names, and None where they allow it.
 
     `auth_events` has these events, and may have others, which count for nothing; `rejected` the ids of those that were rejected. `authorised` is as
-    in `allowed`. Refused: of the ids NOT_JSON, BAD_IDS; of the auth events NOT_JSON, NOT_CANONICAL, BAD_EVENTS; then as the event's test fails,
-    NOT_SIGNED, MISSING_EVENTS.
+    in `allowed`. Refused: BAD_VERSION; of the ids NOT_JSON, BAD_IDS; of the auth events NOT_JSON, NOT_CANONICAL, BAD_EVENTS; then as the event's test
+    fails, NOT_SIGNED, MISSING_EVENTS.
     """
-    return _rule(_answer(_allowed_by_auth_events, *_slices(event, _array(auth_events), _items(rejected)), _truth(authorised)))
+    slices = _slices(event, _array(auth_events), _items(rejected))
+    return _rule(_answer(_allowed_by_auth_events, _room(version), *slices, _truth(authorised)))
 
 
 def destinations(state: typing.Iterable[Value], servers: typing.Iterable[str], own: Text) -> typing.List[str]:
@@ -430,14 +444,17 @@ def destinations(state: typing.Iterable[Value], servers: typing.Iterable[str], o
     return json.loads(_answer(_destinations, *_slices(_array(state), _items(servers), _text(own))))
 
 
-def resolve(events: typing.Iterable[Value], states: typing.Iterable[typing.Iterable[str]], rejected: typing.Iterable[str] = ()) -> typing.List[str]:
+def resolve(
+    events: typing.Iterable[Value], states: typing.Iterable[typing.Iterable[str]], rejected: typing.Iterable[str] = (), *, version: int = 10
+) -> typing.List[str]:
     """The ids of the events of the state that several states of a room resolve to, in the order of their types and state keys.
 
     `events` are events of the room, each behind its auth events, of which those of the states and of their auth chains are enough; `rejected` has the
-    ids of those that were rejected, and each state the ids of its events. Refused: of the rejected ones NOT_JSON, BAD_IDS; of the events NOT_JSON,
-    NOT_CANONICAL, BAD_EVENTS; of the states NOT_JSON, BAD_STATE.
+    ids of those that were rejected, and each state the ids of its events. Refused: BAD_VERSION; of the rejected ones NOT_JSON, BAD_IDS; of the events
+    NOT_JSON, NOT_CANONICAL, BAD_EVENTS; of the states NOT_JSON, BAD_STATE.
     """
-    return json.loads(_answer(_resolve, *_slices(_array(events), _items(rejected), [_items(state) for state in _items(states)])))
+    slices = _slices(_array(events), _items(rejected), [_items(state) for state in _items(states)])
+    return json.loads(_answer(_resolve, _room(version), *slices))
 
 
 def _rule(numbers):

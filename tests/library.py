@@ -4,10 +4,11 @@
     tests/library.py [--built]
 
 With --built it takes what c/build.sh left. It compares every line of the vectors (crates/fed_vectors) that one of the library's calls
-answers; the answers of whole buffers, of ones a byte short and of empty ones; what a refused call leaves; the auth events of an event; values in
-place of texts, and what the module refuses itself; texts with null bytes, and of 16 MB; eight threads at once; the numbers of wikzord.h with those
-of wikzord.py; what c/install.sh and pip install; the C example, where valgrind is on the machine under it too; each of its allocations refused in
-turn; and, where matrix.org's packages are installed, tests/receipt.py and tests/interop.py.
+answers; the answers of whole buffers, of ones a byte short and of empty ones; what a refused call leaves; the auth events of an event; what differs
+between room versions 10 and 11, by their published tables; values in place of texts, and what the module refuses itself; texts with null bytes, and
+of 16 MB; eight threads at once; the numbers of wikzord.h with those of wikzord.py; what c/install.sh and pip install; the C example, where valgrind
+is on the machine under it too; each of its allocations refused in turn; and, where matrix.org's packages are installed, tests/receipt.py and
+tests/interop.py.
 
 Prints `N passed, M failed`, and ends with status 1 where one failed.
 """
@@ -54,15 +55,46 @@ def unpadded(alphabet, value):
     return alphabet(hashlib.sha256(text(value)).digest()).decode().rstrip("=")
 
 
+# What redaction keeps of an event and, by its type, of its content ("Redactions" of room versions 10 and 11), but that in version 11 all of the
+# content of a create event stays, and of a `third_party_invite` in that of a member event its `signed`.
+TOP = {
+    "auth_events", "content", "depth", "event_id", "hashes", "origin_server_ts", "prev_events", "room_id", "sender", "signatures", "state_key",
+    "type"}
+TOP_KEYS = {10: TOP | {"membership", "origin", "prev_state"}, 11: TOP}
+LEVELS = {"ban", "events", "events_default", "kick", "redact", "state_default", "users", "users_default"}
+CONTENT = {
+    "m.room.history_visibility": {"history_visibility"}, "m.room.join_rules": {"allow", "join_rule"},
+    "m.room.member": {"join_authorised_via_users_server", "membership"}}
+CONTENT_KEYS = {
+    10: CONTENT | {"m.room.create": {"creator"}, "m.room.power_levels": LEVELS},
+    11: CONTENT | {"m.room.power_levels": LEVELS | {"invite"}, "m.room.redaction": {"redacts"}}}
+
+
+def redacted(event, version):
+    """What the tables leave of an event."""
+    kind, content = event.get("type"), event.get("content")
+    kept = {name: value for name, value in event.items() if name in TOP_KEYS[version]}
+    if content is None or (version, kind) == (11, "m.room.create"):
+        return kept
+    kept["content"] = {name: value for name, value in content.items() if name in CONTENT_KEYS[version].get(kind, ())}
+    if (version, kind) == (11, "m.room.member") and isinstance(content.get("third_party_invite"), dict):
+        kept["content"]["third_party_invite"] = {name: value for name, value in content["third_party_invite"].items() if name == "signed"}
+    return kept
+
+
+def id_of(event, version=10):
+    return "$" + unpadded(base64.urlsafe_b64encode, without(redacted(event, version), "signatures", "unsigned"))
+
+
 def event_of(number, **fields):
-    """An event with a content of its own, with its id, by Python's own JSON and hashes."""
+    """An event with a content of its own, with its id, by Python's own JSON and hashes; a type that redaction leaves nothing of has the same in both
+    versions."""
     event = {
         "auth_events": [], "content": {"n": number}, "depth": 1, "origin_server_ts": 1, "prev_events": [], "room_id": "!r:a.example",
         "sender": "@u:a.example", "signatures": {"a.example": {"ed25519:1": "A" * 86}}, "type": "m.x", **fields,
     }
     event["hashes"] = {"sha256": unpadded(base64.b64encode, without(event, "hashes", "signatures", "unsigned"))}
-    redacted = without(event, "signatures", "unsigned") | {"content": {}}
-    return event, "$" + unpadded(base64.urlsafe_b64encode, redacted)
+    return event, id_of(event)
 
 
 # ---- the vectors
@@ -87,11 +119,16 @@ def answered(function):
         return {"error": WORDS.get(refused.status.name, str(refused))}
 
 
-def id_answer(call, of_one, of_many):
+def room(call):
+    """The version of the room that a call names, by name."""
+    return {"version": int(call.get("room_version", "10"))}
+
+
+def id_answer(call, of_one, of_many, **room):
     """What is made of one event, which the call on many makes of it too, beside another event."""
-    one = answered(lambda: of_one(given(call)))
-    several = answered(lambda: of_many([b"{}", given(call)]))
-    check("of many", several, {"ok": [of_one(b"{}"), one["ok"]]} if "ok" in one else one)
+    one = answered(lambda: of_one(given(call), **room))
+    several = answered(lambda: of_many([b"{}", given(call)], **room))
+    check("of many", several, {"ok": [of_one(b"{}", **room), one["ok"]]} if "ok" in one else one)
     return one
 
 
@@ -100,7 +137,7 @@ def event_answer(call):
     fault = wikzord.event_fault(event)
     if fault:
         return {"error": fault.error}
-    return {"ok": {"hash_fits": wikzord.hash_fits(event), "id": wikzord.event_id(event)}}
+    return {"ok": {"hash_fits": wikzord.hash_fits(event), "id": wikzord.event_id(event, **room(call))}}
 
 
 def transaction_answer(call, wanted):
@@ -115,7 +152,7 @@ def texts_answer(call, wanted):
     same = wikzord.content_hash(value) == base64.b64encode(hashlib.sha256(covered).digest()).decode().rstrip("=")
     return {"ok": {
         "covered": wanted["ok"]["covered"] if same else None,
-        "signed": wikzord.signed_text(value).decode(),
+        "signed": wikzord.signed_text(value, **room(call)).decode(),
         "whole": wikzord.canonical(value).decode(),
     }}
 
@@ -149,13 +186,13 @@ def selection_answer(call):
         event = call["graph"][place]["event"]
         state[event["type"], event["state_key"]] = place
     event = text(call["event"])
-    keys = wikzord.auth_selection(event if wikzord.hash_fits(event) else wikzord.redaction(event))
+    keys = wikzord.auth_selection(event if wikzord.hash_fits(event) else wikzord.redaction(event, **room(call)))
     return {"ok": list(dict.fromkeys(state[key] for key in keys if key in state))}
 
 
 def events_and_ids(call):
     events = [text(row["event"]) for row in call["graph"]]
-    return events, [wikzord.event_id(event) for event in events]
+    return events, wikzord.event_ids(events, **room(call))
 
 
 def holding(call, places):
@@ -174,7 +211,8 @@ def allowed_answer(call, wanted):
     events, _ = events_and_ids(call)
     if call["event"].get("type") == "m.room.create" and events and 0 not in call["state"]:
         return wanted
-    rule = wikzord.allowed(text(call["event"]), [events[place] for place in holding(call, call["state"])], authorised=True)
+    state = [events[place] for place in holding(call, call["state"])]
+    rule = wikzord.allowed(text(call["event"]), state, authorised=True, **room(call))
     return {"error": str(rule)} if rule else {"ok": None}
 
 
@@ -196,9 +234,9 @@ def resolution_answer(call, wanted):
     for number, operation in enumerate(call["operations"]):
         if list(operation) == ["resolve"]:
             states = [[ids[place] for place in holding(call, state)] for state in operation["resolve"]]
-            resolved = wikzord.resolve(events, states, rejected)
+            resolved = wikzord.resolve(events, states, rejected, **room(call))
             chains = auth_chains(events, ids, (event_id for state in states for event_id in state))
-            check("the states' auth chains are enough", wikzord.resolve(chains, states, rejected), resolved)
+            check("the states' auth chains are enough", wikzord.resolve(chains, states, rejected, **room(call)), resolved)
             answers[number] = [ids.index(event_id) for event_id in resolved]
     return {"ok": answers}
 
@@ -231,9 +269,9 @@ def signing_answer(call, wanted):
 # Each call of the vectors that the library answers, by what is given and what is wanted.
 CALLS = {
     "canonical": lambda call, wanted: answered(lambda: wikzord.canonical(given(call), call.get("levels", 127)).decode()),
-    "redact": lambda call, wanted: answered(lambda: json.loads(wikzord.redaction(given(call)))),
-    "signed_text": lambda call, wanted: answered(lambda: wikzord.signed_text(given(call)).decode()),
-    "event_id": lambda call, wanted: id_answer(call, wikzord.event_id, wikzord.event_ids),
+    "redact": lambda call, wanted: answered(lambda: json.loads(wikzord.redaction(given(call), **room(call)))),
+    "signed_text": lambda call, wanted: answered(lambda: wikzord.signed_text(given(call), **room(call)).decode()),
+    "event_id": lambda call, wanted: id_answer(call, wikzord.event_id, wikzord.event_ids, **room(call)),
     "content_hash": lambda call, wanted: id_answer(call, wikzord.content_hash, wikzord.content_hashes),
     "texts": texts_answer,
     "event": lambda call, wanted: event_answer(call),
@@ -302,6 +340,21 @@ class Output:
 
 def slices(*parts):
     return [it for part in parts for it in (part, ctypes.c_size_t(len(part)))]
+
+
+TEN = ctypes.c_uint32(10)
+
+# The calls that take the version of a room, before all else.
+IN_ROOMS = {"redaction", "signed_text", "event_id", "event_ids", "allowed", "allowed_by_auth_events", "resolve"}
+
+
+def in_rooms(name, arguments, refusals):
+    """The arguments of a call, and those that it refuses, in a room of version 10; and in one of another version what is right and what is wrong."""
+    if name.split()[0] not in IN_ROOMS:
+        return arguments, refusals
+    tried = [arguments, *(given for given, _ in refusals[:1])]
+    others = [(ctypes.c_uint32(number), *given) for number in (0, 9, 12, 110, 2**32 - 1) for given in tried]
+    return (TEN, *arguments), [*(((TEN, *given), status) for given, status in refusals), *((given, wikzord.Status.BAD_VERSION) for given in others)]
 
 
 def several(texts, lengths=None):
@@ -463,6 +516,7 @@ def try_buffers():
         *room_functions(),
     ]
     for name, function, arguments, answer, refusals in functions:
+        arguments, refusals = in_rooms(name, arguments, refusals)
         for size in {len(answer), len(answer) + 1, len(answer) + 40, MIB}:
             out = Output(size)
             status = out.give(function, *arguments)
@@ -542,6 +596,99 @@ def try_rooms():
     check("the text of a rule", [str(rule(4, 3, 7)), str(rule(4, 2, 0)), str(rule(5, 0, 0))], ["4.3.7", "4.2", "5"])
     check("two events in one text are none", answered(lambda: wikzord.resolve([text(create) + b"," + text(join)], [])), {"error": "not json"})
     check("a rejected event stays where all states agree", wikzord.resolve(events, [state, state], [join_id]), [create_id, join_id])
+
+
+# ---- versions of rooms
+
+
+def try_tables():
+    """What the tables of both versions leave of an event, and its id by them."""
+    for name, event, of_10, of_11 in [
+        ("a create event", {"content": {"body": "x", "creator": "@u:a"}, "origin": "a", "type": "m.room.create"},
+            b'{"content":{"creator":"@u:a"},"origin":"a","type":"m.room.create"}',
+            b'{"content":{"body":"x","creator":"@u:a"},"type":"m.room.create"}'),
+        ("an invite", {"content": {"membership": "invite", "third_party_invite": {"display_name": "x", "signed": {}}}, "type": "m.room.member"},
+            b'{"content":{"membership":"invite"},"type":"m.room.member"}',
+            b'{"content":{"membership":"invite","third_party_invite":{"signed":{}}},"type":"m.room.member"}'),
+        ("levels", {"content": {"ban": 1, "invite": 2}, "type": "m.room.power_levels"},
+            b'{"content":{"ban":1},"type":"m.room.power_levels"}', b'{"content":{"ban":1,"invite":2},"type":"m.room.power_levels"}'),
+        ("a redaction", {"content": {"reason": "x", "redacts": "$a"}, "redacts": "$a", "type": "m.room.redaction"},
+            b'{"content":{},"type":"m.room.redaction"}', b'{"content":{"redacts":"$a"},"type":"m.room.redaction"}'),
+    ]:
+        check(f"{name} in version 10", (wikzord.redaction(event), wikzord.redaction(event, version=10)), (of_10, of_10))
+        check(f"{name} in version 11", wikzord.redaction(event, version=11), of_11)
+    event = {"origin": "a", "unsigned": {}}
+    check("an id in version 11", wikzord.event_id(event, version=11), "$RBNvo1WzZ4oRRq0W9-hknpT7T8If536DEMBg9hyq_4o")
+    check("the same event in version 10", wikzord.event_id(event), id_of(event))
+    names = sorted(set().union(["body", "creator", "third_party_invite"], *CONTENT_KEYS[11].values()))
+    for kind in sorted({"m.room.message", *CONTENT_KEYS[10], *CONTENT_KEYS[11]}):
+        for invite in ({"signed": {"a": [1]}, "x": 1}, {"x": 1}, {}, 1, None):
+            content = dict.fromkeys(names, "x") | {"third_party_invite": invite}
+            event = dict.fromkeys([*TOP_KEYS[10], "unsigned", "redacts", "age_ts"], 1) | {"content": content, "type": kind}
+            for version in (10, 11):
+                left = redacted(event, version)
+                check(f"{kind} with {invite} in version {version}", wikzord.redaction(event, version=version), text(left))
+                signed, event_id = wikzord.signed_text(event, version=version), wikzord.event_id(event, version=version)
+                check(f"what is signed of {kind} in version {version}", signed, text(without(left, "signatures")))
+                ids = [id_of(event, version), id_of({}, version)]
+                check(f"the ids of {kind} in version {version}", (event_id, wikzord.event_ids([event, {}], version=version)), (ids[0], ids))
+
+
+def room_of(version, content):
+    """A create event by @u and the joins of @u and @v, and the ids of all three, in a room of this version."""
+    create = event_of(0, type="m.room.create", state_key="", content=content)[0]
+    create_id = id_of(create, version)
+    joins = [
+        event_of(number, type="m.room.member", sender=user, state_key=user, content={"membership": "join"}, prev_events=[create_id],
+            auth_events=[create_id])[0] for number, user in ((1, "@u:a.example"), (2, "@v:a.example"))]
+    return create, *joins, [id_of(it, version) for it in (create, *joins)]
+
+
+def try_versions():
+    """Who made a room, and which events those are that ids name."""
+    rule = wikzord.Rule
+    for version, creator, other in ((10, "@v:a.example", "@u:a.example"), (11, "@u:a.example", "@v:a.example")):
+        # (the create event is by @u and names @v, whom version 11 does not ask)
+        create, one, two, ids = room_of(version, {"creator": "@v:a.example", "room_version": str(version)})
+        joins = {join["sender"]: join for join in (one, two)}
+        check(f"the first join in version {version}", wikzord.allowed(joins[creator], [create], version=version), None)
+        check(f"the first join of another in version {version}", wikzord.allowed(joins[other], [create], version=version), rule(4, 3, 7))
+        by_auth_events = wikzord.allowed_by_auth_events(joins[creator], [create], version=version)
+        check(f"the first join by its auth events in version {version}", by_auth_events, None)
+        for sender, wanted in ((creator, True), (other, False)):
+            ban = event_of(3, type="m.room.member", sender=sender, state_key="@w:a.example", content={"membership": "ban"})[0]
+            check(f"a ban by {sender} in version {version}", wikzord.allowed(ban, [create, one, two], version=version) is None, wanted)
+        check(f"a state in version {version}", wikzord.resolve([create, one, two], [ids, ids], version=version), ids)
+        # (an id of the other version names no event)
+        message = event_of(4, auth_events=ids[:2])[0]
+        check(f"auth events in version {version}", wikzord.allowed_by_auth_events(message, [one, create], version=version), None)
+        missing, bad_events = {"error": "missing events"}, {"error": "bad events"}
+        of_other = {"version": 21 - version}
+        check(f"the same in version {21 - version}", answered(lambda: wikzord.allowed_by_auth_events(message, [one, create], **of_other)), missing)
+        check(f"its state in version {21 - version}", answered(lambda: wikzord.resolve([create, one], [], **of_other)), bad_events)
+    without_creator = event_of(0, type="m.room.create", state_key="", content={"room_version": "11"})[0]
+    check("a create event without a creator in version 10", wikzord.allowed(without_creator, []), rule(1, 4, 0))
+    check("a create event without a creator in version 11", wikzord.allowed(without_creator, [], version=11), None)
+    # (of one whose content hash does not fit, version 10 leaves no m.federate)
+    create = event_of(0, type="m.room.create", state_key="", content={"creator": "@u:a.example"})[0]
+    create["content"]["m.federate"] = False
+    far = event_of(5, sender="@x:b.example", signatures={"b.example": {"ed25519:1": "A" * 86}})[0]
+    check("a changed create event in version 10", wikzord.allowed(far, [create]), rule(5, 0, 0))
+    check("a changed create event in version 11", wikzord.allowed(far, [create], version=11), rule(3, 0, 0))
+
+
+def try_other_versions():
+    """What is no number of a version that is known, and what is no number."""
+    calls = [
+        lambda **room: wikzord.redaction(b"{", **room), lambda **room: wikzord.signed_text({}, **room), lambda **room: wikzord.event_id({}, **room),
+        lambda **room: wikzord.event_ids([], **room), lambda **room: wikzord.event_ids([b"{"], **room),
+        lambda **room: wikzord.allowed({}, [b"5"], **room), lambda **room: wikzord.allowed_by_auth_events({}, [], [5], **room),
+        lambda **room: wikzord.resolve([], [], [5], **room)]
+    for number in (0, 1, 9, 12, 1_000, -1, -10, 2**31, 2**32 + 10, 2**64 + 11, True):
+        check(f"version {number}", [answered(lambda: call(version=number)) for call in calls], [{"error": "bad version"}] * len(calls))
+    for number in ("10", "11", 10.0, None, b"\n"):
+        check(f"version {number!r} is no number", [raised(lambda: call(version=number)) for call in calls], [TypeError] * len(calls))
+    check("a version without its name", raised(lambda: wikzord.event_id({}, 11)), TypeError)
 
 
 # ---- values in place of texts, and what the module refuses itself
@@ -824,7 +971,8 @@ if not failed:
     import wikzord
 
     parts = (
-        try_vectors, try_buffers, try_numbers, try_rooms, try_values, try_refusals, try_null_bytes, try_large, try_many, try_threads, try_header,
+        try_vectors, try_buffers, try_numbers, try_rooms, try_tables, try_versions, try_other_versions, try_values, try_refusals, try_null_bytes,
+        try_large, try_many, try_threads, try_header,
         try_loading, try_install, try_example, try_refused_memory, try_receipt,
         try_interop)
     for part in parts:

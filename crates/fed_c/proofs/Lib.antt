@@ -11,3 +11,5 @@ pub mod Rooms
 pub mod WrittenHeaders
 pub mod Servers
 pub mod OneAfterAnother
+pub mod AnyVersion
+pub mod OtherVersions

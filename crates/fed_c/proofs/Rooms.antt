@@ -3,6 +3,7 @@ use Rattle.std.proofs.Common.{◌≡◌, ℕ, List, map, Result, Ok, Err, sym, a
 use Rattle.std.specs.FinMap as finite
 use Rattle.serde_json.specs.Data.{Data, string, array, no_items}
 use Rattle.fed_json.specs.CanonicalText.{canonical_text}
+use Rattle.fed_redaction.specs.declared.version.Version.{Version}
 use Rattle.fed_room_contract.specs.declared.graph.Stored.{Stored}
 use Rattle.fed_room_contract.specs.declared.entry.Entry.{Entry}
 use Rattle.fed_room_contract.specs.Entry.{seen}
@@ -24,7 +25,7 @@ then_ok r x f e = ap (λ s. and_then s f) e
 then_err : {X Y : Type 0} (r : Result X Status) (why : Status) (f : X → Result Y Status) → r ≡ Err why → and_then r f ≡ Err why
 then_err r why f e = ap (λ s. and_then s f) e
 
-module _ (events rejected states : Result Data Status) where
+module _ (version : Version) (events rejected states : Result Data Status) where
   abbrev by_states : List Stored → List StateMap → Result (List ℕ) Status
   by_states stored held = Ok (canonical_text (ids_value (resolved_of stored held)))
 
@@ -32,21 +33,21 @@ module _ (events rejected states : Result Data Status) where
   by_history stored = and_then (and_then states (states_in stored)) (by_states stored)
 
   abbrev by_rejected : Data → Result (List ℕ) Status
-  by_rejected ids = and_then (history_in ids events) by_history
+  by_rejected ids = and_then (history_in version ids events) by_history
 
   pub resolved_gives : (ids : Data) (stored : List Stored) (held : List StateMap)
-      → and_then rejected ids_in ≡ Ok ids → history_in ids events ≡ Ok stored → and_then states (states_in stored) ≡ Ok held
-      → resolved_answer events rejected states ≡ Ok (canonical_text (ids_value (resolved_of stored held)))
+      → and_then rejected ids_in ≡ Ok ids → history_in version ids events ≡ Ok stored → and_then states (states_in stored) ≡ Ok held
+      → resolved_answer version events rejected states ≡ Ok (canonical_text (ids_value (resolved_of stored held)))
   resolved_gives ids stored held r e s = then_ok _ ids by_rejected r ∙ then_ok _ stored by_history e ∙ then_ok _ held (by_states stored) s
 
-  pub resolved_no_ids : (why : Status) → and_then rejected ids_in ≡ Err why → resolved_answer events rejected states ≡ Err why
+  pub resolved_no_ids : (why : Status) → and_then rejected ids_in ≡ Err why → resolved_answer version events rejected states ≡ Err why
   resolved_no_ids why r = then_err _ why by_rejected r
 
-  pub resolved_no_events : (ids : Data) (why : Status) → and_then rejected ids_in ≡ Ok ids → history_in ids events ≡ Err why → resolved_answer events rejected states ≡ Err why
+  pub resolved_no_events : (ids : Data) (why : Status) → and_then rejected ids_in ≡ Ok ids → history_in version ids events ≡ Err why → resolved_answer version events rejected states ≡ Err why
   resolved_no_events ids why r e = then_ok _ ids by_rejected r ∙ then_err _ why by_history e
 
-  pub resolved_no_states : (ids : Data) (stored : List Stored) (why : Status) → and_then rejected ids_in ≡ Ok ids → history_in ids events ≡ Ok stored
-      → and_then states (states_in stored) ≡ Err why → resolved_answer events rejected states ≡ Err why
+  pub resolved_no_states : (ids : Data) (stored : List Stored) (why : Status) → and_then rejected ids_in ≡ Ok ids → history_in version ids events ≡ Ok stored
+      → and_then states (states_in stored) ≡ Err why → resolved_answer version events rejected states ≡ Err why
   resolved_no_states ids stored why r e s = then_ok _ ids by_rejected r ∙ then_ok _ stored by_history e ∙ then_err _ why (by_states stored) s
 
 -- ---- the ids of a state, added one after another

@@ -7,6 +7,7 @@ use Rattle.std.specs.FinMap as finite
 use Rattle.serde_json.specs.Data.{Data}
 use Rattle.fed_json.specs.JsonRef.{as_items}
 use Rattle.fed_redaction.specs.EventId.{event_id_of}
+use Rattle.fed_event.specs.Event.{Event}
 use Rattle.fed_event.specs.Fields.{kind_of, state_key_of}
 use Rattle.fed_room_contract.specs.declared.graph.Stored.{Stored}
 use Rattle.fed_room_contract.specs.State.{StateMap, entry_at}
@@ -34,7 +35,7 @@ bad_then : {X Y : Type 0} (r : Result X Status) (f : X → Result Y Status) → 
 bad_then (Ok x) f first others why e = others x why e
 bad_then (Err w) f first others why e = let bad = first w refl in cc
 
-bad_laid : (state : StateMap) (event : Data) → OnlyBad (laid state event)
+bad_laid : (state : StateMap) (event : Event) → OnlyBad (laid state event)
 bad_laid state event =
     bad_then (or_refusal BadState (state_key_of event)) (λ key. laid_at state (kind_of event) key (event_id_of event)) (bad_option (state_key_of event))
     (λ key. bad_if (is_some (entry_at state (kind_of event) key)) _)
@@ -43,14 +44,14 @@ bad_else : {X : Type 0} (b : Bool) (r : Result X Status) → OnlyBad r → OnlyB
 bad_else true r bad why e = bad why e
 bad_else false r bad why e = cc
 
-bad_made : (events : List Data) → OnlyBad (made_of events)
+bad_made : (events : List Event) → OnlyBad (made_of events)
 bad_made events = bad_else (is_state events) (Ok (with_events finite.empty events)) (λ why e. absurd (cc))
 
 module _ (events : List Stored) where
   abbrev all_named : List Data → Bool
   all_named ids = list_all (λ id. is_some (named events id)) ids
 
-  abbrev named_events : List Data → List Data
+  abbrev named_events : List Data → List Event
   named_events ids = filter_map (named events) ids
 
   abbrev if_named : Bool → Result StateMap Status → Result StateMap Status
@@ -68,7 +69,7 @@ module _ (events : List Stored) where
   one_laid ids (Ok after) bad rest = rest after
   one_laid ids (Err why) bad rest = bad_either (all_named ids) why (bad why refl)
 
-  one_from : (state : StateMap) (id : Data) (ids : List Data) (o : Option Data) → named events id ≡ o → ((after : StateMap) → IsFrom after ids) → IsFrom state (id ∷ ids)
+  one_from : (state : StateMap) (id : Data) (ids : List Data) (o : Option Event) → named events id ≡ o → ((after : StateMap) → IsFrom after ids) → IsFrom state (id ∷ ids)
   one_from state id ids None e rest = rw e refl
   one_from state id ids (Some event) e rest = rw e (one_laid ids (laid state event) (bad_laid state event) rest)
 

@@ -3,6 +3,7 @@ use Rattle.std.proofs.Common.{◌≡◌, ℕ, List, [], ◌∷◌, ◌++◌, map
 use Rattle.std.proofs.lemmas.List.{append-nil}
 use Rattle.std.specs.List.{list_all}
 use Rattle.serde_json.specs.Data.{Data}
+use Rattle.fed_redaction.specs.declared.version.Version.{Version}
 use Rattle.fed_room_contract.specs.declared.graph.Stored.{Stored}
 use Rattle.fed_room_contract.specs.Graph.{stored_at}
 use Rattle.fed_auth.specs.AuthState.{stored_of}
@@ -12,23 +13,23 @@ use Rattle.fed_c.specs.AuthEvents.{named}
 use Rattle.fed_c.specs.StoredEvents.{stored_events_of}
 use Rattle.fed_c.specs.StoredEventsParts.{with_stored_events, with_named}
 
-module _ (rejected : Data) where
+module _ (version : Version) (rejected : Data) where
   abbrev kept : Data → Stored
-  kept value = stored_as rejected (taken value)
+  kept value = stored_as rejected (taken version value)
 
   abbrev IsWhole : List Stored → List Data → Type 0
-  IsWhole before values = with_stored_events rejected before values ≡ (if list_all is_event values then Ok (before ++ map kept values) else Err BadEvents)
+  IsWhole before values = with_stored_events version rejected before values ≡ (if list_all (is_event version) values then Ok (before ++ map kept values) else Err BadEvents)
 
-  one_more : (before : List Stored) (value : Data) (values : List Data) (b : Bool) → is_event value ≡ b → IsWhole (before ++ kept value ∷ []) values → IsWhole before (value ∷ values)
+  one_more : (before : List Stored) (value : Data) (values : List Data) (b : Bool) → is_event version value ≡ b → IsWhole (before ++ kept value ∷ []) values → IsWhole before (value ∷ values)
   one_more before value values false e rest = rw e refl
   one_more before value values true e rest =
-      rw e (rest ∙ ap (λ events. if list_all is_event values then Ok events else Err BadEvents) (append_assoc before (kept value ∷ []) (map kept values)))
+      rw e (rest ∙ ap (λ events. if list_all (is_event version) values then Ok events else Err BadEvents) (append_assoc before (kept value ∷ []) (map kept values)))
 
   whole : (before : List Stored) (values : List Data) → IsWhole before values
   whole before [] = ap Ok (sym (append-nil before))
-  whole before (value ∷ values) = one_more before value values (is_event value) refl (whole (before ++ kept value ∷ []) values)
+  whole before (value ∷ values) = one_more before value values (is_event version value) refl (whole (before ++ kept value ∷ []) values)
 
-  pub added_at_once : (values : List Data) → with_stored_events rejected [] values ≡ stored_events_of rejected values
+  pub added_at_once : (values : List Data) → with_stored_events version rejected [] values ≡ stored_events_of version rejected values
   added_at_once values = whole [] values
 
 module _ (given : List Stored) where

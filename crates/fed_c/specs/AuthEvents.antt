@@ -1,8 +1,9 @@
--- What the call on the auth events of an event answers (Matrix, room version 10, "Authorization rules": rule 2, and then the others;
+-- What the call on the auth events of an event answers (Matrix, room versions 10 and 11, "Authorization rules": rule 2, and then the others;
 -- Server-Server API, "Checks performed on receipt of a PDU", check 4).
 use Rattle.std.specs.Prelude.{ℕ, List, [], Bool, ⊤, is_some, map, codes, bytes_eq, if◌then◌else◌, Result, Ok, Err}
 use Rattle.std.specs.List.{list_all}
 use Rattle.serde_json.specs.Data.{Data}
+use Rattle.fed_redaction.specs.declared.version.Version.{Version}
 use Rattle.fed_event.specs.Fields.{auth_events_of, kind_of}
 use Rattle.fed_event.specs.Checked.{CheckedEvent}
 use Rattle.fed_room_contract.specs.declared.rule.Rule.{Rule}
@@ -34,8 +35,8 @@ allowed_by_auth checked auth =
     if bytes_eq (kind_of checked.event) (codes "m.room.create") then allowed_by [] checked
     else and_by_others (decide (auth_table checked.event auth)) (allowed_by (map (λ stored. stored.event.event) auth) checked)
 
--- by the rejected ones, the events among which are those that it names, and the event
-abbrev pub auth_answer : Result Data Status → Result Data Status → Result Data Status → Bool → Result (List ℕ) Status
-auth_answer rejected events event authorised =
-    and_then (and_then rejected ids_in) (λ ids. and_then (and_then events (stored_events_in ids)) (λ given. and_then (and_then event (checked_as authorised))
+-- by the version of the room, the rejected ones, the events among which are those that it names, and the event
+abbrev pub auth_answer : Version → Result Data Status → Result Data Status → Result Data Status → Bool → Result (List ℕ) Status
+auth_answer version rejected events event authorised =
+    and_then (and_then rejected ids_in) (λ ids. and_then (and_then events (stored_events_in version ids)) (λ given. and_then (and_then event (checked_as version authorised))
     (λ checked. and_then (named given (auth_events_of checked.event)) (λ auth. Ok (rule_numbers (allowed_by_auth checked auth))))))

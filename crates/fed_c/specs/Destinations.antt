@@ -5,6 +5,8 @@ use Rattle.std.specs.List.{list_any}
 use Rattle.serde_json.specs.Data.{Data, string, array}
 use Rattle.serde_json.specs.View.{items_of}
 use Rattle.fed_json.specs.CanonicalText.{canonical_text}
+use Rattle.fed_redaction.specs.declared.version.Version.{Version}
+use Rattle.fed_event.specs.Event.{Event}
 use Rattle.fed_dest.specs.ServerName.{IsServerName}
 use Rattle.fed_dest.specs.Joined.{joins_server}
 use Rattle.fed_c.specs.declared.status.Status.{Status}
@@ -28,10 +30,10 @@ servers_fault (Ok value) = BadServers
 servers_fault (Err fault) = fault
 
 -- of these servers, in their order, the others that have a user whom some event of the state joins
-abbrev pub sent_to : List Data → List (List ℕ) → List ℕ → List (List ℕ)
+abbrev pub sent_to : List Event → List (List ℕ) → List ℕ → List (List ℕ)
 sent_to held servers own = filter (λ server. list_any (joins_server server) held && not (bytes_eq server own)) servers
 
--- by the events of the state, the servers and the own one
-abbrev pub destinations_answer : Result Data Status → List (List ℕ) → List ℕ → Result (List ℕ) Status
-destinations_answer state servers own =
-    and_then (and_then state state_events_in) (λ held. and_then (made_of held) (λ _. Ok (canonical_text (texts_value (sent_to held servers own)))))
+-- by the version of the room, the events of the state, the servers and the own one
+abbrev pub destinations_answer : Version → Result Data Status → List (List ℕ) → List ℕ → Result (List ℕ) Status
+destinations_answer version state servers own =
+    and_then (and_then state (state_events_in version)) (λ held. and_then (made_of held) (λ _. Ok (canonical_text (texts_value (sent_to held servers own)))))

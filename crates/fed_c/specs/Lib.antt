@@ -4,6 +4,7 @@ pub mod Output
 pub mod Values
 pub mod Results
 pub mod ListParts
+pub mod RoomVersion
 pub mod Texts
 pub mod Events
 pub mod Requests

@@ -2,16 +2,15 @@
 use Rattle.std.specs.Prelude.{ℕ, List, [], ◌∷◌, ◌++◌, Result, Ok}
 use Rattle.serde_json.specs.Data.{Data}
 use Rattle.fed_redaction.specs.ContentHash.{content_hash_of}
-use Rattle.fed_redaction.specs.EventId.{event_id_of}
 use Rattle.fed_c.specs.declared.several.Made.{Made}
 use Rattle.fed_c.specs.declared.several.Made.TheVariants.{EventId, ContentHash}
 use Rattle.fed_c.specs.declared.status.Status.{Status}
 use Rattle.fed_c.specs.Results.{and_then}
-use Rattle.fed_c.specs.Texts.{of_value}
+use Rattle.fed_c.specs.Texts.{of_value, event_id_in}
 use Rattle.fed_c.specs.Values.{value_of}
 
 abbrev pub maker_of : Made → Data → List ℕ
-maker_of EventId = event_id_of
+maker_of (EventId version) = event_id_in version
 maker_of ContentHash = content_hash_of
 
 -- these bytes, and behind them what f makes of each text

@@ -2,6 +2,7 @@
 use Rattle.std.specs.Prelude.{ℕ, List, [], ◌∷◌, ◌++◌, is_some, if◌then◌else◌, Result, Ok, Err}
 use Rattle.serde_json.specs.Data.{Data}
 use Rattle.fed_redaction.specs.EventId.{event_id_of}
+use Rattle.fed_event.specs.Event.{Event}
 use Rattle.fed_event.specs.Fields.{kind_of, state_key_of}
 use Rattle.fed_room_contract.specs.declared.graph.Stored.{Stored}
 use Rattle.fed_room_contract.specs.State.{StateMap, entry_at, with_entry}
@@ -15,11 +16,11 @@ abbrev pub laid_at : StateMap → List ℕ → List ℕ → List ℕ → Result 
 laid_at state kind key id = if is_some (entry_at state kind key) then Err BadState else Ok (with_entry state kind key id)
 
 -- with this event, which is a state event
-abbrev pub laid : StateMap → Data → Result StateMap Status
+abbrev pub laid : StateMap → Event → Result StateMap Status
 laid state event = and_then (or_refusal BadState (state_key_of event)) (λ key. laid_at state (kind_of event) key (event_id_of event))
 
 -- with these, one after another
-abbrev pub laid_all : StateMap → List Data → Result StateMap Status
+abbrev pub laid_all : StateMap → List Event → Result StateMap Status
 laid_all state [] = Ok state
 laid_all state (event ∷ events) = and_then (laid state event) (λ after. laid_all after events)
 

@@ -8,6 +8,7 @@ use Rattle.serde_json.specs.Data.{Data}
 use Rattle.serde_json.specs.Find.{as_str}
 use Rattle.fed_json.specs.JsonRef.{as_items}
 use Rattle.fed_redaction.specs.EventId.{event_id_of}
+use Rattle.fed_event.specs.Event.{Event}
 use Rattle.fed_event.specs.Fields.{kind_of, state_key_of}
 use Rattle.fed_room_contract.specs.declared.graph.Stored.{Stored}
 use Rattle.fed_room_contract.specs.State.{StateMap}
@@ -18,28 +19,28 @@ use Rattle.fed_c.specs.declared.status.Status.TheVariants.{BadState}
 use Rattle.fed_c.specs.Results.{and_then, or_refusal}
 
 -- of one type and state key
-abbrev pub are_alike : Data → Data → Bool
+abbrev pub are_alike : Event → Event → Bool
 are_alike one other = bytes_eq (kind_of one) (kind_of other) && option_eq bytes_eq (state_key_of one) (state_key_of other)
 
-abbrev pub has_double : List Data → Bool
+abbrev pub has_double : List Event → Bool
 has_double [] = false
 has_double (one ∷ others) = list_any (are_alike one) others || has_double others
 
 -- state events, no two of one type and state key
-abbrev pub is_state : List Data → Bool
+abbrev pub is_state : List Event → Bool
 is_state events = list_all (λ event. is_some (state_key_of event)) events && not (has_double events)
 
 -- a state with these events
-abbrev pub with_events : StateMap → List Data → StateMap
+abbrev pub with_events : StateMap → List Event → StateMap
 with_events state [] = state
 with_events state (event ∷ events) = with_events (with_id_at state (kind_of event) (state_key_of event) (event_id_of event)) events
 
 -- the state that events make
-abbrev pub made_of : List Data → Result StateMap Status
+abbrev pub made_of : List Event → Result StateMap Status
 made_of events = if is_state events then Ok (with_events finite.empty events) else Err BadState
 
 -- the event that an id names
-abbrev pub named : List Stored → Data → Option Data
+abbrev pub named : List Stored → Data → Option Event
 named events id = option_map (λ stored. stored.event.event) (option_and_then (stored_at events) (as_str id))
 
 -- the state of these ids, where each names an event

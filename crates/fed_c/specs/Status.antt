@@ -1,7 +1,7 @@
 -- The numbers that C sees (c/wikzord.h, `enum wikzord_status`).
 use Rattle.std.specs.Prelude.{ℕ}
 use Rattle.fed_c.specs.declared.status.Status.{Status}
-use Rattle.fed_c.specs.declared.status.Status.TheVariants.{Done, BufferTooSmall, Memory, NotJson, NotCanonical, TooDeep, HashDiffers, NotUtf8, MissingField, WrongKind, EventTooLarge, FieldTooLong, TooManyIds, BodyTooLarge, BadBody, TooManyPdus, TooManyEdus, BadVerdicts, BadHeader, BadSignature, NotSigned, BadEvents, BadState, BadServers, BadIds, MissingEvents}
+use Rattle.fed_c.specs.declared.status.Status.TheVariants.{Done, BufferTooSmall, Memory, NotJson, NotCanonical, TooDeep, HashDiffers, NotUtf8, MissingField, WrongKind, EventTooLarge, FieldTooLong, TooManyIds, BodyTooLarge, BadBody, TooManyPdus, TooManyEdus, BadVerdicts, BadHeader, BadSignature, NotSigned, BadEvents, BadState, BadServers, BadIds, MissingEvents, BadVersion}
 
 abbrev pub number_of : Status → ℕ
 number_of Done = 0
@@ -30,3 +30,4 @@ number_of BadState = 22
 number_of BadServers = 23
 number_of BadIds = 24
 number_of MissingEvents = 25
+number_of BadVersion = 26

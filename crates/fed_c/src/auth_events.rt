@@ -6,13 +6,16 @@ ghost use Rattle.fed_event.specs.Reading.{read_of};
 ghost use Rattle.fed_room_contract.specs.Graph.{stored_at};
 ghost use Rattle.fed_c.specs.AuthEvents.{allowed_by_auth, auth_answer, named};
 ghost use Rattle.fed_c.specs.Events.{read_or_status};
-ghost use Rattle.fed_c.specs.Output.{Gives};
+ghost use Rattle.fed_c.specs.Output.{Gives, IsRefused};
+ghost use Rattle.fed_c.specs.RoomVersion.{by_version, version_in};
+ghost use Rattle.fed_c.specs.Status.{number_of};
 ghost use Rattle.fed_c.specs.Values.{value_of};
-ghost use Rattle.fed_c.specs.declared.status.Status.TheVariants.{Memory};
+ghost use Rattle.fed_c.specs.declared.status.Status.TheVariants.{Memory, BadVersion};
 
 use crate::allowed::rule_numbers;
 use crate::ids::ids;
 use crate::output::{Answer, give};
+use crate::room_version::room_version;
 use crate::rule_two::allow_auth_events;
 use crate::signers::checked;
 use crate::status::Status;
@@ -22,18 +25,20 @@ use fed_json::NoMemory;
 use fed_room_contract::{Rule, Stored};
 use std::alloc::Global;
 
-/// Whether an event is allowed by the auth events that it names (room version 10, "Authorization rules"; Server-Server API, "Checks performed on
-/// receipt of a PDU", check 4): rule 2, and then the others by the state that these make. The answer is as in `wikzord_allowed`.
+/// Whether an event is allowed by the auth events that it names in a room of this version (room versions 10 and 11, "Authorization rules";
+/// Server-Server API, "Checks performed on receipt of a PDU", check 4): rule 2, and then the others by the state that these make. The answer is
+/// as in `wikzord_allowed`.
 ///
 /// `auth_events` is an array of events, in any order, among which are all that the event names, and `rejected` one of the ids of those that were
 /// rejected. What else stands in the two counts for nothing. Whose signatures check is as in `wikzord_allowed`.
 ///
-/// Returns the first of these faults: of `rejected`, `NotJson`, `NotCanonical` and `BadIds`; of `auth_events`, `NotJson`, `NotCanonical` and
-/// `BadEvents`; that of the first test that the event fails, as `wikzord_event_test` does; `NotSigned` where its sender's server has no signature
-/// there; `MissingEvents`.
+/// Returns the first of these faults: `BadVersion` where `version` is neither 10 nor 11, for which it needs no memory; of `rejected`, `NotJson`,
+/// `NotCanonical` and `BadIds`; of `auth_events`, `NotJson`, `NotCanonical` and `BadEvents`; that of the first test that the event fails, as
+/// `wikzord_event_test` does; `NotSigned` where its sender's server has no signature there; `MissingEvents`.
 #[unsafe(no_mangle)]
 pub extern "C" fn wikzord_allowed_by_auth_events(
     alloc: Global,
+    version: u32,
     text: &[u8],
     auth_events: &[u8],
     rejected: &[u8],
@@ -41,28 +46,34 @@ pub extern "C" fn wikzord_allowed_by_auth_events(
     out: &mut [u8],
     needed: &mut usize,
 ) -> u32
-    ensures { Gives (auth_answer (value_of rejected.now) (value_of auth_events.now) (read_or_status (read_of text.now)) authorised) result
+    ensures gives { Gives (by_version version (λ v. auth_answer v (value_of rejected.now) (value_of auth_events.now) (read_or_status (read_of text.now)) authorised)) result
         (record { before = out.old; after = out.new; told_before = needed.old; told = needed.new }) }
+    ensures refuses { version_in version ≡ Err BadVersion
+        → IsRefused BadVersion result (record { before = out.old; after = out.new; told_before = needed.old; told = needed.new }) }
+    ensures only { result ≡ number_of BadVersion → version_in version ≡ Err BadVersion }
 {
-    let answer = allowed(alloc, text, auth_events, rejected, authorised);
+    let answer = allowed(alloc, version, text, auth_events, rejected, authorised);
     give(answer, out, needed)
 }
 
 fn allowed(
     alloc: Global,
+    version: u32,
     text: &[u8],
     auth_events: &[u8],
     rejected: &[u8],
     authorised: bool,
 ) -> Answer
-    ensures ok { IfOk result (λ bytes. auth_answer (value_of rejected.now) (value_of auth_events.now) (read_or_status (read_of text.now)) authorised
+    ensures ok { IfOk result (λ bytes. by_version version (λ v. auth_answer v (value_of rejected.now) (value_of auth_events.now) (read_or_status (read_of text.now)) authorised)
         ≡ Ok bytes.items) }
     ensures fault { IfErr result (λ status. status ≢ Memory
-        → auth_answer (value_of rejected.now) (value_of auth_events.now) (read_or_status (read_of text.now)) authorised ≡ Err status) }
+        → by_version version (λ v. auth_answer v (value_of rejected.now) (value_of auth_events.now) (read_or_status (read_of text.now)) authorised) ≡ Err status) }
+    ensures refuses { version_in version ≡ Err BadVersion → result ≡ Err BadVersion }
 {
+    let version = room_version(version)?;
     let rejected = ids(alloc, rejected)?;
-    let given = stored_events(alloc, auth_events, &rejected)?;
-    let event = checked(alloc, text, authorised)?;
+    let given = stored_events(alloc, version, auth_events, &rejected)?;
+    let event = checked(alloc, version, text, authorised)?;
     let auth = named(alloc, &given, event.event().auth_events())?;
     Ok(rule_numbers(alloc, allowed_by_auth(alloc, &event, &auth)?)?)
 }

@@ -2,6 +2,8 @@
 ghost use Rattle.std.specs.Prelude.{◌≡◌, ◌≢◌, ◌∷◌, ◌++◌, [], ℕ, List, Ok, Err, IfOk, IfErr, IsErrAnd, OnOk};
 ghost use Rattle.std.specs.List.{list_any};
 ghost use Rattle.serde_json.specs.Data.{string};
+ghost use Rattle.fed_redaction.specs.declared.version.Version.{Version};
+ghost use Rattle.fed_redaction.specs.declared.version.Version.TheVariants.{V10};
 ghost use Rattle.fed_json.specs.Items.{left};
 ghost use Rattle.fed_json.specs.JsonRef.{seen};
 ghost use Rattle.fed_dest.specs.Joined.{joins_server};
@@ -17,12 +19,13 @@ use crate::state_events::{made_of, state_events};
 use crate::status::Status;
 use crate::values::value;
 use fed_dest::{NameFault, ServerName, joins_server};
-use fed_event::Pdu;
+use fed_event::{Pdu, Version};
 use fed_json::{Items, Json, JsonRef, NoMemory, canonical};
 use std::alloc::Global;
 
 /// The servers that an event goes to (Server-Server API, "PDUs"), by the state before it: the canonical text of an array of those of `servers`,
-/// in their order, that have a user who is joined, without the own one. The events of the state are looked at once for each server.
+/// in their order, that have a user who is joined, without the own one. They are the same in every room version. The events of the state are looked at
+/// once for each server.
 ///
 /// `state` is an array of the events that hold before the event, of which the member events are enough, and `servers` one of the names of servers.
 ///
@@ -37,8 +40,8 @@ pub extern "C" fn wikzord_destinations(
     out: &mut [u8],
     needed: &mut usize,
 ) -> u32
-    ensures gives { (names : List (List ℕ)) → AreServers (value_of servers.now) names
-        → Gives (destinations_answer (value_of state.now) names own.now) result
+    ensures gives { (version : Version) (names : List (List ℕ)) → AreServers (value_of servers.now) names
+        → Gives (destinations_answer version (value_of state.now) names own.now) result
         (record { before = out.old; after = out.new; told_before = needed.old; told = needed.new }) }
     ensures refuses { ((names : List (List ℕ)) → ¬ AreServers (value_of servers.now) names)
         → Gives (Err (servers_fault (value_of servers.now))) result
@@ -49,9 +52,9 @@ pub extern "C" fn wikzord_destinations(
 
 fn destinations(alloc: Global, state: &[u8], servers: &[u8], own: &[u8]) -> Answer
     ensures ok { (names : List (List ℕ)) → AreServers (value_of servers.now) names
-        → IfOk result (λ bytes. destinations_answer (value_of state.now) names own.now ≡ Ok bytes.items) }
+        → IfOk result (λ bytes. destinations_answer V10 (value_of state.now) names own.now ≡ Ok bytes.items) }
     ensures fault { (names : List (List ℕ)) → AreServers (value_of servers.now) names
-        → IfErr result (λ status. status ≢ Memory → destinations_answer (value_of state.now) names own.now ≡ Err status) }
+        → IfErr result (λ status. status ≢ Memory → destinations_answer V10 (value_of state.now) names own.now ≡ Err status) }
     ensures none { ((names : List (List ℕ)) → ¬ AreServers (value_of servers.now) names)
         → IsErrAnd result (λ status. status ≢ Memory → servers_fault (value_of servers.now) ≡ status) }
 {
@@ -106,10 +109,10 @@ fn name_of(alloc: Global, value: JsonRef<'_>) -> Result<ServerName, Status>
 
 // The answer by the servers.
 fn by_servers(alloc: Global, state: &[u8], servers: &[ServerName], own: &[u8]) -> Answer
-    ensures ok { IfOk result (λ bytes. destinations_answer (value_of state.now) servers.now own.now ≡ Ok bytes.items) }
-    ensures fault { IfErr result (λ status. status ≢ Memory → destinations_answer (value_of state.now) servers.now own.now ≡ Err status) }
+    ensures ok { IfOk result (λ bytes. destinations_answer V10 (value_of state.now) servers.now own.now ≡ Ok bytes.items) }
+    ensures fault { IfErr result (λ status. status ≢ Memory → destinations_answer V10 (value_of state.now) servers.now own.now ≡ Err status) }
 {
-    let held = state_events(alloc, state)?;
+    let held = state_events(alloc, Version::V10, state)?;
     let _state = made_of(alloc, &held)?;
     let names = sent_to(alloc, &held, servers, own)?;
     Ok(canonical(alloc, &names)?)

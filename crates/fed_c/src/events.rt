@@ -7,7 +7,7 @@ ghost use Rattle.fed_c.specs.declared.status.Status.TheVariants.{Memory};
 
 use crate::output::{Answer, give};
 use crate::status::Status;
-use fed_event::{Field, Pdu, PduFault};
+use fed_event::{Field, Pdu, PduFault, Version};
 use std::alloc::Global;
 
 /// The first of the tests that an event fails (Server-Server API, "Checks performed on receipt of a PDU", check 1).
@@ -25,21 +25,22 @@ pub extern "C" fn wikzord_event_test(alloc: Global, text: &[u8], field: &mut u32
     }
 }
 
-// The first of the tests that an event fails.
+// The first of the tests that an event fails, which are the same for every version of rooms.
 fn test(alloc: Global, text: &[u8]) -> Result<(), PduFault>
     ensures ok { OnOk result (fault_in (read_of text.now) ≡ None) }
     ensures fault { IfErr result (λ fault. fault ≢ PduFault.Memory → fault_in (read_of text.now) ≡ Some fault) }
 {
-    let _event = Pdu::read(alloc, text)?;
+    let _event = Pdu::read(alloc, Version::V10, text)?;
     Ok(())
 }
 
-/// The event of a text, or the status of the first test that it fails.
-pub(crate) fn event(alloc: Global, text: &[u8]) -> Result<Pdu, Status>
-    ensures ok { IfOk result (λ event. read_or_status (read_of text.now) ≡ Ok event) }
+/// The event of a text in a room of this version, or the status of the first test that it fails.
+pub(crate) fn event(alloc: Global, version: Version, text: &[u8]) -> Result<Pdu, Status>
+    ensures ok { IfOk result (λ event. read_or_status (read_of text.now) ≡ Ok event.value) }
+    ensures version { IfOk result (λ event. event.version ≡ version) }
     ensures fault { IfErr result (λ status. status ≢ Memory → read_or_status (read_of text.now) ≡ Err status) }
 {
-    match Pdu::read(alloc, text) {
+    match Pdu::read(alloc, version, text) {
         Ok(event) => Ok(event),
         Err(fault) => Err(status_of(fault)),
     }
@@ -125,7 +126,7 @@ fn event_error(alloc: Global, text: &[u8]) -> Answer
     ensures ok { IfOk result (λ bytes. bytes.items ≡ event_error (read_of text.now)) }
     ensures fault { IfErr result (λ status. status ≡ Memory) }
 {
-    match Pdu::read(alloc, text) {
+    match Pdu::read(alloc, Version::V10, text) {
         Ok(_) => Ok(Vec::new(alloc)),
         Err(PduFault::Memory) => Err(Status::Memory),
         Err(fault) => Ok(fault.verdict_text(alloc)?.into_bytes()),

@@ -2,13 +2,14 @@
 //!
 //! Every function has one form: what it reads comes as slices, what it makes goes into a buffer of the caller's, how many bytes that takes
 //! goes where `needed` says, and what it returns is the number of a `Status`: `Done`, `Memory` where memory ran out, `BufferTooSmall` of a
-//! function that has a buffer, and those that its comment names. A list comes, and is given, as the JSON text of an array. Nothing is kept
-//! between calls.
+//! function that has a buffer, and those that its comment names. A list comes, and is given, as the JSON text of an array. A function whose
+//! answer depends on the version of the room takes its number first. Nothing is kept between calls.
 //!
 //! - `status`: `Status`, how a call ends, and its number
 //! - `version`: the number of the interface
 //! - `output`: from an answer to the caller's buffer
 //! - `values`: from bytes to a JSON value
+//! - `room_version`: the versions of rooms, by their numbers
 //! - `texts`: texts made of a value: the canonical one, the redaction, the signed one, the event id and the content hash
 //! - `several`: ids and content hashes of several events
 //! - `events`: the tests of an event
@@ -37,6 +38,7 @@ mod output;
 mod replies;
 mod requests;
 mod resolution;
+mod room_version;
 mod rule_two;
 mod selection;
 mod several;

@@ -8,7 +8,7 @@ use fed_auth::Selector;
 use fed_event::Pdu;
 use fed_room_contract::{Rule, Stored};
 
-/// Rule 2 (room version 10, "Authorization rules") on these auth events of an event that is no create event.
+/// Rule 2 (room versions 10 and 11, "Authorization rules") on these auth events of an event that is no create event.
 ///
 /// # Errors
 ///

@@ -1,35 +1,52 @@
 //! What is made of several texts, one behind another.
 ghost use Rattle.std.specs.Prelude.{◌≡◌, ◌≢◌, ℕ, Ok, Err, IfOk, IfErr, take, drop};
 ghost use Rattle.fed_redaction.specs.ContentHash.{content_hash_of};
-ghost use Rattle.fed_redaction.specs.EventId.{event_id_of};
-ghost use Rattle.fed_c.specs.Output.{Gives};
+ghost use Rattle.fed_c.specs.Output.{Gives, IsRefused};
+ghost use Rattle.fed_c.specs.RoomVersion.{by_version, version_in};
 ghost use Rattle.fed_c.specs.Several.{cut, of_values};
 ghost use Rattle.fed_c.specs.SeveralParts.{maker_of};
-ghost use Rattle.fed_c.specs.Texts.{of_value};
+ghost use Rattle.fed_c.specs.Texts.{of_value, event_id_in};
+ghost use Rattle.fed_c.specs.Status.{number_of};
 ghost use Rattle.fed_c.specs.Values.{value_of};
-ghost use Rattle.fed_c.specs.declared.status.Status.TheVariants.{Memory};
+ghost use Rattle.fed_c.specs.declared.status.Status.TheVariants.{Memory, BadVersion};
 
 use crate::output::{Answer, give};
-use crate::texts::{content_hash, event_id};
+use crate::room_version::room_version;
+use crate::texts::{content_hash, event_id_in};
+use fed_redaction::Version;
 use std::alloc::Global;
 
-/// The ids of several events (room version 4, "Event IDs"): 44 bytes each, one behind another.
+/// The ids of several events in a room of this version (room version 4, "Event IDs"): 44 bytes each, one behind another.
 ///
 /// The events stand one behind another in `texts`, and `lens` has the length of each; one past the end stands for what is left.
 ///
-/// Returns `NotJson` or `NotCanonical` where the first text that has no value has none.
+/// Returns `BadVersion` where `version` is neither 10 nor 11, for which it needs no memory; then `NotJson` or `NotCanonical` where the first text that
+/// has no value has none.
 #[unsafe(no_mangle)]
 pub extern "C" fn wikzord_event_ids(
     alloc: Global,
+    version: u32,
     texts: &[u8],
     lens: &[usize],
     out: &mut [u8],
     needed: &mut usize,
 ) -> u32
-    ensures { Gives (of_values event_id_of (cut texts.now lens.now)) result
+    ensures gives { Gives (by_version version (λ v. of_values (event_id_in v) (cut texts.now lens.now))) result
         (record { before = out.old; after = out.new; told_before = needed.old; told = needed.new }) }
+    ensures refuses { version_in version ≡ Err BadVersion
+        → IsRefused BadVersion result (record { before = out.old; after = out.new; told_before = needed.old; told = needed.new }) }
+    ensures only { result ≡ number_of BadVersion → version_in version ≡ Err BadVersion }
 {
-    give(each(alloc, Made::EventId, texts, lens), out, needed)
+    give(event_ids(alloc, version, texts, lens), out, needed)
+}
+
+fn event_ids(alloc: Global, version: u32, texts: &[u8], lens: &[usize]) -> Answer
+    ensures ok { IfOk result (λ bytes. by_version version (λ v. of_values (event_id_in v) (cut texts.now lens.now)) ≡ Ok bytes.items) }
+    ensures fault { IfErr result (λ status. status ≢ Memory → by_version version (λ v. of_values (event_id_in v) (cut texts.now lens.now)) ≡ Err status) }
+    ensures refuses { version_in version ≡ Err BadVersion → result ≡ Err BadVersion }
+{
+    let version = room_version(version)?;
+    each(alloc, Made::EventId(version), texts, lens)
 }
 
 /// The content hashes of several events (Server-Server API, "Calculating the content hash for an event"): 43 bytes of base64 each, one behind
@@ -55,7 +72,7 @@ pub extern "C" fn wikzord_content_hashes(
 /// What is made of a text.
 #[derive(Clone, Copy)]
 enum Made {
-    EventId,
+    EventId(Version),
     ContentHash,
 }
 
@@ -65,7 +82,7 @@ impl Made {
         ensures fault { IfErr result (λ status. status ≢ Memory → of_value (maker_of self) (value_of text.now) ≡ Err status) }
     {
         match self {
-            Made::EventId => event_id(alloc, text),
+            Made::EventId(version) => event_id_in(alloc, version, text),
             Made::ContentHash => content_hash(alloc, text),
         }
     }

@@ -10,7 +10,7 @@ ghost use Rattle.fed_c.specs.declared.status.Status.TheVariants.{Memory};
 
 use crate::events::event;
 use crate::status::Status;
-use fed_event::{CheckFault, Checked, Keys, Pdu, check_in, domain};
+use fed_event::{CheckFault, Checked, Keys, Pdu, Version, check_in, domain};
 use fed_json::NoMemory;
 use std::alloc::Global;
 
@@ -64,22 +64,27 @@ impl Keys for Signers {
     }
 }
 
-/// The event of a text, whose signature by its sender's server has checked, and where `others` is so those of all other servers.
+/// The event of a text in a room of this version, whose signature by its sender's server has checked, and where `others` is so those of all other servers.
 ///
 /// # Errors
 ///
 /// That of the first test that the event fails; `NotSigned` where it has no signature of its sender's server. `Memory` where memory ran out.
-pub(crate) fn checked(alloc: Global, text: &[u8], others: bool) -> Result<Checked, Status>
-    ensures ok { IfOk result (λ checked. and_then (read_or_status (read_of text.now)) (checked_as others) ≡ Ok checked) }
-    ensures fault { IfErr result (λ status. status ≢ Memory → and_then (read_or_status (read_of text.now)) (checked_as others) ≡ Err status) }
+pub(crate) fn checked(
+    alloc: Global,
+    version: Version,
+    text: &[u8],
+    others: bool,
+) -> Result<Checked, Status>
+    ensures ok { IfOk result (λ checked. and_then (read_or_status (read_of text.now)) (checked_as version others) ≡ Ok checked) }
+    ensures fault { IfErr result (λ status. status ≢ Memory → and_then (read_or_status (read_of text.now)) (checked_as version others) ≡ Err status) }
 {
-    let event = event(alloc, text)?;
+    let event = event(alloc, version, text)?;
     checked_as(alloc, event, others)
 }
 
 fn checked_as(alloc: Global, event: Pdu, others: bool) -> Result<Checked, Status>
-    ensures ok { IfOk result (λ checked. checked_as others event ≡ Ok checked) }
-    ensures fault { IfErr result (λ status. status ≢ Memory → checked_as others event ≡ Err status) }
+    ensures ok { IfOk result (λ checked. checked_as event.version others event.value ≡ Ok checked) }
+    ensures fault { IfErr result (λ status. status ≢ Memory → checked_as event.version others event.value ≡ Err status) }
 {
     let signers = Signers::of(alloc, &event, others)?;
     match check_in(alloc, event, &signers) {

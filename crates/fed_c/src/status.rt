@@ -61,6 +61,8 @@ pub enum Status {
     BadIds,
     /// An event names an auth event that is not among those that are given.
     MissingEvents,
+    /// The version of the room is neither 10 nor 11.
+    BadVersion,
 }
 
 impl Status {
@@ -95,6 +97,7 @@ impl Status {
             Status::BadServers => 23,
             Status::BadIds => 24,
             Status::MissingEvents => 25,
+            Status::BadVersion => 26,
         }
     }
 }

@@ -7,15 +7,15 @@ ghost use Rattle.fed_c.specs.StoredEvents.{stored_events_in, stored_events_of};
 ghost use Rattle.fed_c.specs.Values.{value_of};
 ghost use Rattle.fed_c.specs.declared.status.Status.TheVariants.{Memory};
 
-use crate::history::{event_in, verdict_by};
+use crate::history::{checked_in, verdict_by};
 use crate::status::Status;
 use crate::values::value;
-use fed_event::Checked;
+use fed_event::{Checked, Version};
 use fed_json::{Items, Json, NoMemory};
 use fed_room_contract::Stored;
 use std::alloc::Global;
 
-/// The events of an array, in their order: those whose ids `rejected` lists as rejected ones, the others as accepted ones.
+/// The events of an array, of a room of this version, in their order: those whose ids `rejected` lists as rejected ones, the others as accepted ones.
 ///
 /// # Errors
 ///
@@ -23,29 +23,31 @@ use std::alloc::Global;
 /// seen without keys. `Memory` where memory ran out.
 pub(crate) fn stored_events(
     alloc: Global,
+    version: Version,
     events: &[u8],
     rejected: &Json,
 ) -> Result<Vec<Stored>, Status>
-    ensures ok { IfOk result (λ list. and_then (value_of events.now) (stored_events_in rejected.now) ≡ Ok list.items) }
-    ensures fault { IfErr result (λ status. status ≢ Memory → and_then (value_of events.now) (stored_events_in rejected.now) ≡ Err status) }
+    ensures ok { IfOk result (λ list. and_then (value_of events.now) (stored_events_in version rejected.now) ≡ Ok list.items) }
+    ensures fault { IfErr result (λ status. status ≢ Memory → and_then (value_of events.now) (stored_events_in version rejected.now) ≡ Err status) }
 {
     let json = value(alloc, events)?;
     let values = json.items().ok_or(Status::BadEvents)?;
-    stored_events_of(alloc, values, rejected)
+    stored_events_of(alloc, version, values, rejected)
 }
 
 // The events that these values are.
 fn stored_events_of(
     alloc: Global,
+    version: Version,
     values: Items<'_>,
     rejected: &Json,
 ) -> Result<Vec<Stored>, Status>
-    ensures ok { IfOk result (λ list. stored_events_of rejected.now (left values.entry) ≡ Ok list.items) }
-    ensures fault { IfErr result (λ status. status ≢ Memory → stored_events_of rejected.now (left values.entry) ≡ Err status) }
+    ensures ok { IfOk result (λ list. stored_events_of version rejected.now (left values.entry) ≡ Ok list.items) }
+    ensures fault { IfErr result (λ status. status ≢ Memory → stored_events_of version rejected.now (left values.entry) ≡ Err status) }
 {
     let mut events = Vec::new(alloc);
     for value in values {
-        let event = event_in(alloc, value)?;
+        let event = checked_in(alloc, version, value)?;
         add(&mut events, event, rejected)?;
     }
     Ok(events)

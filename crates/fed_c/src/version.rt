@@ -4,7 +4,7 @@ ghost use Rattle.fed_c.specs.Version.{version};
 
 /// The number of the interface: of the functions, what each is given and answers, and the numbers of statuses, fields and parts. It grows where one of
 /// these changes in a way that a program for the interface before it would not expect.
-const VERSION: u32 = 2;
+const VERSION: u32 = 3;
 
 /// The number of the interface that the library has.
 #[unsafe(no_mangle)]

@@ -6,4 +6,4 @@ use Rattle.fed_c.proofs.history.history_of.Given as goal
 
 -- what is left decides
 abbrev pub invariant-loop-value : goal.invariant-loop-value
-invariant-loop-value l = history_of l.rejected (left l.fn.events) ≡ with_events l.rejected l.graph.stored (left l.value-iterator)
+invariant-loop-value l = history_of l.version l.rejected (left l.fn.events) ≡ with_events l.version l.rejected l.graph.stored (left l.value-iterator)

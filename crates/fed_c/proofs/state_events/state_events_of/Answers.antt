@@ -3,4 +3,4 @@ use Rattle.fed_c.proofs.StateEvents.{added_at_once}
 use Rattle.fed_c.proofs.state_events.state_events_of.Goals as goal
 
 pub loop-value-init : goal.loop-value-init
-loop-value-init c = let whole = added_at_once (left c.args.values) in cc
+loop-value-init c = let whole = added_at_once c.args.version (left c.args.values) in cc

@@ -6,4 +6,4 @@ use Rattle.fed_c.proofs.stored_events.stored_events_of.Given as goal
 
 -- what is left decides
 abbrev pub invariant-loop-value : goal.invariant-loop-value
-invariant-loop-value l = stored_events_of l.rejected (left l.fn.values) ≡ with_stored_events l.rejected l.events.items (left l.value-iterator)
+invariant-loop-value l = stored_events_of l.version l.rejected (left l.fn.values) ≡ with_stored_events l.version l.rejected l.events.items (left l.value-iterator)

@@ -1,0 +1,13 @@
+use Rattle.fed_redaction.specs.declared.version.Version.{Version}
+use Rattle.fed_c.specs.Texts.{of_value, signed_text_in}
+use Rattle.fed_c.specs.RoomVersion.{by_version}
+use Rattle.fed_c.specs.Values.{value_of}
+use Rattle.fed_c.proofs.OtherVersions.{of_value_other, value_other, only_of_others}
+use Rattle.fed_c.proofs.texts.wikzord_signed_text.Goals as goal
+
+pub returns-clause-only : goal.returns-clause-only
+returns-clause-only c =
+    let value = value_of c.args.text.now in
+    let answer = λ (v : Version). of_value (signed_text_in v) value in
+    only_of_others c.args.version answer _ _ (λ v. of_value_other (signed_text_in v) value (value_other c.args.text.now))
+    (c.give.ensures.gives (by_version c.args.version answer) c.signed_text.ensures.ok c.signed_text.ensures.fault)
