@@ -233,7 +233,14 @@ fn users(alloc: Global, room: &str) -> Option<Vec<String>> {
 
 // The events that one of the two rooms begins with. The last one of them is that a second user of a joins.
 fn beginning(alloc: Global, room: &str) -> Option<Vec<Checked>> {
-    started(alloc, Version::V10, room, &users(alloc, room)?, &keys(alloc)?).ok()
+    started(
+        alloc,
+        Version::V10,
+        room,
+        &users(alloc, room)?,
+        &keys(alloc)?,
+    )
+    .ok()
 }
 
 // A message in one of the two rooms, which it has not stored.

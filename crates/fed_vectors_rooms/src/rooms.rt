@@ -6,8 +6,8 @@ use fed_json::{JsonRef, NoMemory};
 use fed_room::{Room, StartFault, StartedFault};
 use fed_room_contract::{Receipt, RoomEngine};
 use fed_vectors_call::{Answer, Arguments, Object, Stop, count, null};
-use fed_vectors_events::{KeyRing, room_version};
 use fed_vectors_events::events::{events_of, sealed, whole_events};
+use fed_vectors_events::{KeyRing, room_version};
 use fed_vectors_graphs::receipt_words;
 use std::alloc::Global;
 
@@ -16,7 +16,13 @@ pub fn started(call: Arguments<'_>) -> Answer {
     let alloc = call.alloc;
     let users = call.strings("users")?;
     let keys = stand_ins(call)?;
-    match fed_room::started(alloc, room_version(call)?, call.text("room")?, &users, &keys) {
+    match fed_room::started(
+        alloc,
+        room_version(call)?,
+        call.text("room")?,
+        &users,
+        &keys,
+    ) {
         Ok(events) => whole_events(alloc, &events),
         Err(StartedFault::Memory) => Err(Stop::Memory),
         Err(fault) => Err(Stop::error(format!(in alloc; "{fault}"))),
